@@ -1,0 +1,5 @@
+mod CloseSteps
+mod FilesSteps
+mod GivenSteps
+mod StoreSteps
+mod TableSteps
