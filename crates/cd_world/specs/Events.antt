@@ -44,13 +44,13 @@ written_by d _ = []
 abbrev pub written_to : ℕ → List Event → List ℕ
 written_to d events = flat_map (written_by d) events
 
--- the bytes that were read on a descriptor
-abbrev pub given_by : ℕ → Event → List ℕ
-given_by d (Gave from bytes) = if from.0 == d then bytes else []
-given_by d _ = []
+-- the bytes that were read
+abbrev pub given_by : Event → List ℕ
+given_by (Gave from bytes) = bytes
+given_by _ = []
 
-abbrev pub given_on : ℕ → List Event → List ℕ
-given_on d events = flat_map (given_by d) events
+abbrev pub bytes_given : List Event → List ℕ
+bytes_given events = flat_map given_by events
 
 -- a write to this descriptor, or a try of one
 abbrev pub IsWriteOn : ℕ → Event → Type 0

@@ -1,0 +1,4 @@
+mod Fronts
+mod PassSteps
+mod TakeSteps
+mod WriteSteps

@@ -1,0 +1,78 @@
+-- How a run of writes to standard output goes on.
+use Rattle.std.proofs.Common.{◌≡◌, ℕ, ◌+◌, ◌-◌, ◌≤◌, length-drop, List, [], ◌∷◌, ◌++◌, length, take, drop, Result, Ok, Err, refl, sym, ◌∙◌, ap, subst, arith, append_assoc}
+use Rattle.std.proofs.lemmas.List.{append-nil, take_all, drop_all, take-append-drop}
+use Rattle.std.proofs.Math.Seq.{take-add}
+use Rattle.std.proofs.lemmas.List.Elements.{All-append, All-cons}
+use Rattle.std.proofs.lemmas.List.Concat.{flat_map-append}
+use Rattle.std.specs.Prelude.{All, OnOk}
+use Rattle.cd_world.specs.declared.event.Descriptor.{Descriptor}
+use Rattle.cd_world.specs.declared.event.Event.{Event}
+use Rattle.cd_world.specs.declared.event.Event.TheVariants.{Wrote, WriteFailed}
+use Rattle.cd_world.specs.declared.world.WorldError.{WorldError}
+use Rattle.cd_world.specs.declared.world.WorldError.TheVariants.{Failed, NoMemory}
+use Rattle.cd_world.specs.Events.{wrote, written_to, IsWriteOn}
+use Rattle.cd_world.specs.Files.{Files, with_output, WritesOutput}
+use Rattle.cd_cli.specs.Take.{WritesFront, LogsFront}
+
+pub nothing_more : (P : Event → Type 0) → All P []
+nothing_more P k e lt = absurd (omega (arith, lt))
+
+-- a front, and then a front of what is behind it
+pub front_more : (bytes : List ℕ) (done count : ℕ) → take done bytes ++ take count (take (length bytes - done) (drop done bytes)) ≡ take (done + count) bytes
+front_more bytes done count =
+    ap (λ (l : List ℕ). take done bytes ++ take count l) (take_all (length bytes - done) (drop done bytes) (omega (arith, length-drop done bytes)))
+    ∙ sym (take-add done count bytes)
+
+-- the files
+
+pub files_none : (f : Files) → f ≡ with_output [] f
+files_none f = ap (λ (o : List ℕ). record f { output = o }) (sym (append-nil f.output))
+
+pub files_more : (a b : List ℕ) (f f' f'' : Files) → f' ≡ with_output a f → f'' ≡ with_output b f' → f'' ≡ with_output (a ++ b) f
+files_more a b f f' f'' so_far more = more ∙ ap (with_output b) so_far ∙ ap (λ (o : List ℕ). record f { output = o }) (append_assoc f.output a b)
+
+module _ {T : Type 0} (bytes : List ℕ) (done : ℕ) (f f' : Files) (so_far : f' ≡ with_output (take done bytes) f) where
+  pub writes_whole : (x : T) → length bytes ≤ done → WritesFront {T = T} {E = WorldError} bytes (Ok x) f f'
+  writes_whole x all = record { sent = take done bytes; behind = drop done bytes; front = sym (take-append-drop done bytes); whole = drop_all done bytes (omega arith); files = so_far }
+
+  pub writes_refused : (result : Result T WorldError) (e : WorldError) (slice : List ℕ) (f'' : Files) → OnOk result (drop done bytes ≡ []) → WritesOutput slice (Err e) f' f'' → WritesFront bytes result f f''
+  writes_refused result e slice f'' whole same = record { sent = take done bytes; behind = drop done bytes; front = sym (take-append-drop done bytes); whole = whole; files = same ∙ so_far }
+
+-- the calls
+
+-- these bytes were written to standard output, and nothing else was called
+pub record LogsOutput (bytes : List ℕ) (l l' : List Event) : Type 0 where
+  pub part : List Event
+  pub log : l' ≡ l ++ part
+  pub writes : All (IsWriteOn 1) part
+  pub written : written_to 1 part ≡ bytes
+
+pub log_none : (l : List Event) → LogsOutput [] l l
+log_none l = record { part = []; log = sym (append-nil l); writes = nothing_more (IsWriteOn 1); written = refl }
+
+pub log_more : (a b : List ℕ) (l l' l'' more : List Event) → LogsOutput a l l' → l'' ≡ l' ++ more → All (IsWriteOn 1) more → written_to 1 more ≡ b → LogsOutput (a ++ b) l l''
+log_more a b l l' l'' more so_far log writes written = record {
+  part = so_far.part ++ more;
+  log = log ∙ ap (λ (l : List Event). l ++ more) so_far.log ∙ append_assoc l so_far.part more;
+  writes = All-append (IsWriteOn 1) so_far.part more so_far.writes writes;
+  written = flat_map-append _ so_far.part more ∙ (λ i. so_far.written i ++ written i);
+}
+
+module _ (a slice : List ℕ) (l l' l'' : List Event) (so_far : LogsOutput a l l') where
+  -- a write that took so many bytes
+  pub log_wrote : (k : ℕ) → l'' ≡ l' ++ wrote (record { 0 = 1 }) slice (Ok k) → LogsOutput (a ++ take k slice) l l''
+  log_wrote k log = log_more a (take k slice) l l' l'' (Wrote (record { 0 = 1 }) (take k slice) ∷ []) so_far log
+      (All-cons (IsWriteOn 1) _ [] refl (nothing_more (IsWriteOn 1))) (append-nil (take k slice))
+
+  -- one that was refused
+  pub log_refused : (e : WorldError) → l'' ≡ l' ++ wrote (record { 0 = 1 }) slice (Err e) → LogsOutput a l l''
+  log_refused Failed log = subst (λ o. LogsOutput o l l'') (append-nil a) (log_more a [] l l' l'' (WriteFailed (record { 0 = 1 }) ∷ []) so_far log
+      (All-cons (IsWriteOn 1) _ [] refl (nothing_more (IsWriteOn 1))) refl)
+  log_refused NoMemory log = subst (λ o. LogsOutput o l l'') (append-nil a) (log_more a [] l l' l'' [] so_far log (nothing_more (IsWriteOn 1)) refl)
+
+module _ (bytes : List ℕ) (done : ℕ) (l l' : List Event) (so_far : LogsOutput (take done bytes) l l') where
+  front_is : bytes ≡ written_to 1 so_far.part ++ drop done bytes
+  front_is = sym (ap (λ (w : List ℕ). w ++ drop done bytes) so_far.written ∙ take-append-drop done bytes)
+
+  pub logs_front : {T : Type 0} (result : Result T WorldError) → OnOk result (drop done bytes ≡ []) → LogsFront bytes result l l'
+  logs_front result whole = record { part = so_far.part; log = so_far.log; writes = so_far.writes; behind = drop done bytes; front = front_is; whole = whole }

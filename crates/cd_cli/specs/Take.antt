@@ -1,0 +1,79 @@
+-- What a run of a file's first bytes to standard output does to the files, and what it calls.
+use Rattle.std.specs.Prelude.{◌≡◌, ℕ, List, [], ◌∷◌, ◌++◌, All, take, Result, OnOk}
+use Rattle.cd_world.specs.declared.event.Descriptor.{Descriptor}
+use Rattle.cd_world.specs.declared.event.Event.{Event}
+use Rattle.cd_world.specs.declared.event.Event.TheVariants.{OpenedRead, OpenFailed, Gave, GaveEnd, ReadFailed, Wrote, WriteFailed}
+use Rattle.cd_world.specs.Events.{written_to, bytes_given, IsWriteOn, IsCloseOf}
+use Rattle.cd_world.specs.Files.{Files, with_output, left_at}
+
+-- A front of these bytes was written to standard output, and all of them where that went well.
+pub record WritesFront {T E : Type 0} (bytes : List ℕ) (result : Result T E) (f f' : Files) : Type 0 where
+  pub sent : List ℕ
+  pub behind : List ℕ
+  pub front : bytes ≡ sent ++ behind
+  pub whole : OnOk result (behind ≡ [])
+  pub files : f' ≡ with_output sent f
+
+-- The same by the calls, which were writes to standard output alone.
+pub record LogsFront {T E : Type 0} (bytes : List ℕ) (result : Result T E) (l l' : List Event) : Type 0 where
+  pub part : List Event
+  pub log : l' ≡ l ++ part
+  pub writes : All (IsWriteOn 1) part
+  pub behind : List ℕ
+  pub front : bytes ≡ written_to 1 part ++ behind
+  pub whole : OnOk result (behind ≡ [])
+
+-- Of the first `count` bytes that were left of a file these were written to standard output, and those behind them were not.
+pub record Passing (d : ℕ) (name : List ℕ) (count : ℕ) (behind : List ℕ) (f f' : Files) : Type 0 where
+  pub sent : List ℕ
+  pub front : take count (left_at d name f) ≡ sent ++ behind
+  pub output : f'.output ≡ f.output ++ sent
+  pub contents : f'.contents ≡ f.contents
+
+-- All of them were written where that went well.
+pub record Passes {T E : Type 0} (d : ℕ) (name : List ℕ) (count : ℕ) (result : Result T E) (f f' : Files) : Type 0 where
+  pub behind : List ℕ
+  pub passing : Passing d name count behind f f'
+  pub whole : OnOk result (behind ≡ [])
+
+-- a read on this descriptor, or a write to standard output
+abbrev pub IsMove : ℕ → Event → Type 0
+IsMove d (Gave from bytes) = from.0 ≡ d
+IsMove d (GaveEnd from) = from.0 ≡ d
+IsMove d (ReadFailed from) = from.0 ≡ d
+IsMove d (Wrote to bytes) = to.0 ≡ 1
+IsMove d (WriteFailed to) = to.0 ≡ 1
+IsMove d _ = ⊥
+
+-- Of the first `count` bytes that were read a front was written, and all of them where that went well.
+pub record LogsPass {T E : Type 0} (d : ℕ) (count : ℕ) (result : Result T E) (l l' : List Event) : Type 0 where
+  pub part : List Event
+  pub log : l' ≡ l ++ part
+  pub moves : All (IsMove d) part
+  pub behind : List ℕ
+  pub front : take count (bytes_given part) ≡ written_to 1 part ++ behind
+  pub whole : OnOk result (behind ≡ [])
+
+-- A front of the file's first `count` bytes was written to standard output, and all of them where that went well.
+pub record Takes {T E : Type 0} (name : List ℕ) (count : ℕ) (result : Result T E) (f f' : Files) : Type 0 where
+  pub sent : List ℕ
+  pub behind : List ℕ
+  pub front : take count (f.contents name) ≡ sent ++ behind
+  pub whole : OnOk result (behind ≡ [])
+  pub output : f'.output ≡ f.output ++ sent
+  pub contents : f'.contents ≡ f.contents
+
+-- Nothing is called; or the open is refused; or the file is opened, read and passed on, and then closed, as the last call of all.
+pub data OpensAndCloses (name : List ℕ) : List Event → Type 0 where
+  none_called : OpensAndCloses name []
+  open_refused : OpensAndCloses name (OpenFailed name ∷ [])
+  open_closed : (d : Descriptor) (moves : List Event) (end : Event) → All (IsMove d.0) moves → IsCloseOf d end → OpensAndCloses name (OpenedRead name d ∷ moves ++ end ∷ [])
+
+-- Of the first `count` bytes that were read a front was written, and all of them where that went well.
+pub record LogsTake {T E : Type 0} (name : List ℕ) (count : ℕ) (result : Result T E) (l l' : List Event) : Type 0 where
+  pub part : List Event
+  pub log : l' ≡ l ++ part
+  pub shape : OpensAndCloses name part
+  pub behind : List ℕ
+  pub front : take count (bytes_given part) ≡ written_to 1 part ++ behind
+  pub whole : OnOk result (behind ≡ [])

@@ -1,0 +1,11 @@
+//! The top call: from the words of the command line, over an outside, to a status.
+#![tactic(auto)]
+
+mod cause;
+mod command;
+mod form;
+mod script;
+mod take;
+
+pub use cause::{Cause, Outcome};
+pub use command::conduit_main;
