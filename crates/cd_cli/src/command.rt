@@ -66,3 +66,6 @@ fn run_text<W: World>(alloc: Global, world: &mut W, text: &[u8]) -> Cause
         Err(error) => Cause::from(error),
     }
 }
+
+#[cfg(test)]
+mod tests;

@@ -29,7 +29,9 @@ pub fn form_of(text: &str) -> Option<Form<'_>> {
 fn is_name(text: &str) -> bool {
     !text.is_empty()
         && text.len() <= 64
-        && text.bytes().all(|byte| byte.is_ascii_alphanumeric() || byte == b'.')
+        && text
+            .bytes()
+            .all(|byte| byte.is_ascii_alphanumeric() || byte == b'.')
 }
 
 /// Reads a count, which has no leading zeros.

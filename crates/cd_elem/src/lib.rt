@@ -18,3 +18,6 @@ pub type ByteList = Items<u8>;
 
 /// A list of numbers.
 pub type NumberList = Items<u32>;
+
+#[cfg(test)]
+mod tests;

@@ -7,7 +7,9 @@ pub struct Descriptor(pub u64);
 
 impl Descriptor {
     pub const STDIN: Descriptor = Descriptor(0);
+
     pub const STDOUT: Descriptor = Descriptor(1);
+
     pub const STDERR: Descriptor = Descriptor(2);
 }
 

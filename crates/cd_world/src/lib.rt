@@ -15,3 +15,6 @@ pub use plan::{Fail, FailList};
 pub use space::{MemoryFile, MemoryFiles};
 pub use table::{OpenFile, OpenTable};
 pub use world::{CloseFailed, World, WorldError};
+
+#[cfg(test)]
+mod tests;

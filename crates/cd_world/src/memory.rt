@@ -14,7 +14,9 @@ use std::alloc::Global;
 
 /// The names of the standard streams.
 const STDIN: &str = "<stdin>";
+
 const STDOUT: &str = "<stdout>";
+
 const STDERR: &str = "<stderr>";
 
 /// Files and streams in memory, which tell what they hold and what was called. Reads and writes are cut and calls fail
@@ -178,7 +180,9 @@ impl MemoryWorld {
         self.prepare(use_of, name)?;
         self.files.plans.count(Call::Opening, name);
         let descriptor = self.admit(use_of, entry);
-        self.log.push(opened_event(use_of, told, descriptor)).unwrap();
+        self.log
+            .push(opened_event(use_of, told, descriptor))
+            .unwrap();
         Ok(descriptor)
     }
 
@@ -242,7 +246,12 @@ impl MemoryWorld {
     }
 
     /// Writes to a standard stream, by its name.
-    fn write_stream(&mut self, name: &str, to: Descriptor, bytes: &[u8]) -> Result<usize, WorldError>
+    fn write_stream(
+        &mut self,
+        name: &str,
+        to: Descriptor,
+        bytes: &[u8],
+    ) -> Result<usize, WorldError>
         requires room { vec_len self.old.table.files + 1 ≤ self.old.log.1 }
         requires some { 0 < length bytes.now }
         ensures within { IfOk result (λ count. (0 < count) × (count ≤ length bytes.now)) }
@@ -305,8 +314,7 @@ impl MemoryWorld {
         ensures files { files_of self.new ≡ with_given which.0 0 (files_of self.old) }
         ensures entry { (o : Open) → Contains (live_of self.old.table.files.items) o → o.descriptor ≡ which → o ≡ open_of result }
     {
-        let place = self.table.place_of(which);
-        let entry = self.table.remove(place);
+        let (place, entry) = self.table.remove(which);
         let _ = self.given.remove(place);
         entry
     }

@@ -64,7 +64,10 @@ impl Plan {
     /// Whether the next call of this sort fails.
     fn is_failing(&self, call: Call) -> bool {
         let number = self.calls(call).saturating_add(1);
-        self.fails.as_slice().iter().any(|fail| fail.is(call, number))
+        self.fails
+            .as_slice()
+            .iter()
+            .any(|fail| fail.is(call, number))
     }
 
     /// How many bytes the next read gives at the most.
@@ -155,7 +158,11 @@ impl Plans {
 
     /// Counts a call on this name. It takes no memory.
     pub fn count(&mut self, call: Call, name: &str) {
-        if let Some(plan) = self.plans.iter_mut().find(|plan| plan.name.as_str() == name) {
+        if let Some(plan) = self
+            .plans
+            .iter_mut()
+            .find(|plan| plan.name.as_str() == name)
+        {
             plan.count(call);
         }
     }

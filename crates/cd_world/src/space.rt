@@ -56,7 +56,12 @@ impl Space {
     }
 
     /// Adds a member under this name.
-    pub fn add(&mut self, alloc: Global, name: Literal, member: MemoryFile) -> Result<(), NoMemory> {
+    pub fn add(
+        &mut self,
+        alloc: Global,
+        name: Literal,
+        member: MemoryFile,
+    ) -> Result<(), NoMemory> {
         let MemoryFile {
             name: _,
             bytes,

@@ -97,15 +97,19 @@ impl OpenTable {
         descriptor
     }
 
-    /// Takes the file at a place out. It takes no memory.
-    pub fn remove(&mut self, place: usize) -> OpenFile
-        requires { place < vec_len self.old.files }
-        ensures item { (d : _) → slice_index_or self.old.files.items place d ≡ result }
-        ensures files { self.new.files.items ≡ remove self.old.files.items place }
+    /// Takes a file out, and says at which place it stood. It takes no memory.
+    pub fn remove(&mut self, which: Descriptor) -> (usize, OpenFile)
+        requires { (use_of : Use) × IsLive use_of which (live_of self.old.files.items) }
+        ensures within { result.0 < vec_len self.old.files }
+        ensures item { (d : _) → slice_index_or self.old.files.items result.0 d ≡ result.1 }
+        ensures descriptor { result.1.descriptor ≡ which }
+        ensures files { self.new.files.items ≡ remove self.old.files.items result.0 }
         ensures last { self.new.last ≡ self.old.last }
         ensures len { vec_len self.new.files + 1 ≡ vec_len self.old.files }
-        ensures live { Removes result.descriptor (live_of self.old.files.items) (live_of self.new.files.items) }
+        ensures live { Removes which (live_of self.old.files.items) (live_of self.new.files.items) }
     {
-        self.files.remove(place)
+        let place = self.place_of(which);
+        let open = self.files.remove(place);
+        (place, open)
     }
 }

@@ -25,4 +25,4 @@ returns-clause-file c = λ name has.
     ∙ ap (λ (o : Open). o.name) (found-is entries c.args.self.now.table.last place d (open_as Writing c.args.to name) c.args.self.now.table.rising within has (c.place_of-place.ensures.found d)) in
     let front_is = c.front_of-front.ensures.front in
     files-eq _ _ (contents-with _ _ name (Some (bytes_in (held files name) ++ take (length c.front_of-front.result.now) c.args.bytes.now))
-        (c.in_ok-append.ensures.ok ∙ (λ i. with_file (name_is i) (Some (bytes_in (held files (name_is i)) ++ front_is i)) (held files)))) (λ d. refl) refl refl refl
+    (c.in_ok-append.ensures.ok ∙ (λ i. with_file (name_is i) (Some (bytes_in (held files (name_is i)) ++ front_is i)) (held files)))) (λ d. refl) refl refl refl
