@@ -1,11 +1,10 @@
 -- How a run of reads that are passed on goes on.
-use Rattle.std.proofs.Common.{◌≡◌, ◌≢◌, ℕ, ◌+◌, ◌-◌, ◌≤◌, ◌<◌, min, length, length-take, length-append, List, [], ◌∷◌, ◌++◌, take, drop, Result, Ok, Err, refl, sym, ◌∙◌, ap, subst, arith, append_assoc, Bool, true, if◌then◌else◌, ◌==◌}
+use Rattle.std.proofs.Common.{◌≡◌, ◌≢◌, ℕ, ◌+◌, ◌-◌, ◌≤◌, min, length, length-take, length-append, List, [], ◌∷◌, ◌++◌, take, drop, Result, Ok, Err, refl, sym, ◌∙◌, ap, subst, arith, append_assoc, Bool, true, if◌then◌else◌, ◌==◌}
 use Rattle.std.specs.Prelude.{All, OnOk}
 use Rattle.std.proofs.lemmas.List.{append-nil, drop-drop}
 use Rattle.std.proofs.lemmas.List.Elements.{All-append, All-cons, All-tail}
 use Rattle.std.proofs.lemmas.List.Concat.{flat_map-append}
 use Rattle.std.proofs.lemmas.Bool.Decides.{nat_tests}
-use Rattle.std.proofs.lemmas.Grind.{common_steps}
 use Rattle.std.proofs.Math.Seq.{take-nil}
 use Rattle.cd_world.specs.declared.event.Descriptor.{Descriptor}
 use Rattle.cd_world.specs.declared.event.Event.{Event}
@@ -14,7 +13,7 @@ use Rattle.cd_world.specs.declared.world.WorldError.{WorldError}
 use Rattle.cd_world.specs.declared.world.WorldError.TheVariants.{Failed, NoMemory}
 use Rattle.cd_world.specs.Events.{gave, given_by, bytes_given, written_by, written_to, IsWriteOn}
 use Rattle.cd_world.specs.Files.{Files, left_at, with_given, with_output, ReadsFile}
-use Rattle.cd_cli.specs.Take.{Passing, Passes, IsMove, LogsFront, LogsPass}
+use Rattle.cd_cli.specs.Take.{Passing, IsMove, LogsFront, LogsPass}
 use Rattle.cd_cli.proofs.Fronts.{take-append, take_least, take-given}
 use Rattle.cd_cli.proofs.WriteSteps.{nothing_more}
 

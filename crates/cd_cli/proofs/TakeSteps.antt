@@ -16,7 +16,7 @@ use Rattle.cd_world.specs.Events.{opened, closed, given_by, bytes_given, written
 use Rattle.cd_world.specs.Files.{Files, left_at, with_given, after_open, ClosesFile}
 use Rattle.cd_world.specs.Live.{open_as}
 use Rattle.cd_cli.specs.Cause.{answer_of}
-use Rattle.cd_cli.specs.Take.{Passes, LogsPass, OpensAndCloses, none_called, open_refused, open_closed, Takes, LogsTake}
+use Rattle.cd_cli.specs.Take.{Passes, LogsPass, none_called, open_refused, open_closed, Takes, LogsTake}
 
 kept : {T U : Type 0} (answer : Result T WorldError) (closing : Result U CloseFailed) (P : Type 0) → OnOk answer P → OnOk (answer_of answer closing) P
 kept (Ok done) (Ok shut) P p = p

@@ -1,5 +1,5 @@
 -- What a close leaves, by what the file was open for.
-use Rattle.std.proofs.Common.{◌≡◌, List, ℕ, Result, Ok, Err, inl, sym, ◌∙◌, ap}
+use Rattle.std.proofs.Common.{◌≡◌, List, ℕ, Ok, Err, inl, sym, ◌∙◌, ap}
 use Rattle.cd_world.specs.declared.event.Descriptor.{Descriptor}
 use Rattle.cd_world.specs.declared.event.Use.{Use}
 use Rattle.cd_world.specs.declared.event.Use.TheVariants.{Reading, Writing, Marking}

@@ -1,11 +1,11 @@
 -- What files in memory hold after one of them is changed, and after one more.
-use Rattle.std.proofs.Common.{◌≡◌, ◌≢◌, ℕ, zero, suc, ◌+◌, ◌-◌, ◌≤◌, ◌<◌, length, List, [], ◌∷◌, ◌++◌, get_or, Option, Some, None, refl, inl, inr, sym, ◌∙◌, ap, subst, arith, Bool, true, false, if◌then◌else◌, slice_set}
+use Rattle.std.proofs.Common.{◌≡◌, ◌≢◌, ℕ, zero, suc, List, [], ◌∷◌, ◌++◌, get_or, Option, None, refl, inl, inr, sym, ◌∙◌, ap, subst, arith, Bool, true, false, if◌then◌else◌, slice_set}
 use Rattle.std.specs.Prelude.{All}
 use Rattle.std.specs.Str.{bytes_eq}
 use Rattle.std.proofs.lemmas.Slice.Eq.{bytes_eq-Decides}
 use Rattle.std.proofs.lemmas.Bool.{cases_Bool}
 use Rattle.cd_world.specs.declared.store.Stored.{Stored}
-use Rattle.cd_world.specs.Store.{held, bytes_in, with_file, IsFirst}
+use Rattle.cd_world.specs.Store.{held, with_file, IsFirst}
 
 same : (a b : List ℕ) → a ≡ b → bytes_eq a b ≡ true
 same a b is = (bytes_eq-Decides a b).1 is

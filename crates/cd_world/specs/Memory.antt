@@ -1,5 +1,5 @@
 -- What an outside in memory tells.
-use Rattle.std.specs.Prelude.{ℕ, List, drop, codes}
+use Rattle.std.specs.Prelude.{drop, codes}
 use Rattle.cd_world.specs.declared.memory.MemoryWorld.{MemoryWorld}
 use Rattle.cd_world.specs.Files.{Files}
 use Rattle.cd_world.specs.Store.{held, bytes_in}

@@ -1,4 +1,4 @@
-use Rattle.std.proofs.Common.{◌≡◌, ℕ, take, refl, ap}
+use Rattle.std.proofs.Common.{ℕ, take, refl, ap}
 use Rattle.std.proofs.lemmas.Result.{IfOk-from_err}
 use Rattle.cd_cli.proofs.TakeSteps.{takes_nothing, logs_nothing}
 use Rattle.cd_cli.proofs.take.run_take.Goals as goal

@@ -1,4 +1,4 @@
-use Rattle.std.proofs.Common.{◌≡◌, ◌++◌, [], List, ℕ, length, length-take, length-drop, take, drop, arith, refl, ◌∙◌, subst, ap, ◌-◌, ◌≤◌, ◌+◌}
+use Rattle.std.proofs.Common.{[], List, ℕ, length, length-take, length-drop, take, drop, arith, refl, ◌∙◌, subst, ap, ◌-◌}
 use Rattle.std.proofs.lemmas.List.{drop_all}
 use Rattle.std.proofs.lemmas.Result.{IfOk-from_err}
 use Rattle.cd_world.specs.Files.{with_output}

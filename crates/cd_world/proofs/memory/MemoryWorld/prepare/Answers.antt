@@ -1,4 +1,4 @@
-use Rattle.std.proofs.Common.{◌≡◌, [], Some, refl}
+use Rattle.std.proofs.Common.{[], Some, refl}
 use Rattle.std.proofs.lemmas.Result.{on_ok_weaker, on_err_weaker}
 use Rattle.cd_world.specs.Store.{bytes_in}
 use Rattle.cd_world.proofs.FilesSteps.{files-eq, contents-with, emptied-is}

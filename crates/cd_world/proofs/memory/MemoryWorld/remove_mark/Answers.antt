@@ -1,4 +1,4 @@
-use Rattle.std.proofs.Common.{◌≡◌, [], None, refl}
+use Rattle.std.proofs.Common.{None, refl}
 use Rattle.cd_world.proofs.FilesSteps.{files-eq, contents-with, unmarked-is, unchanged-is}
 use Rattle.cd_world.proofs.memory.MemoryWorld.remove_mark.Goals as goal
 

@@ -1,4 +1,4 @@
-use Rattle.std.proofs.Common.{◌≡◌, ◌++◌, ℕ, List, Option, drop, refl, sym, ◌∙◌, ap}
+use Rattle.std.proofs.Common.{◌++◌, ℕ, List, drop, refl, ◌∙◌, ap}
 use Rattle.std.specs.Prelude.{codes}
 use Rattle.std.proofs.lemmas.Result.{err_from_is_err_and}
 use Rattle.cd_world.specs.Store.{held, bytes_in}

@@ -1,6 +1,6 @@
-use Rattle.std.proofs.Common.{◌≡◌, sym, ◌∙◌, ap}
+use Rattle.std.proofs.Common.{sym, ◌∙◌, ap}
 use Rattle.cd_world.specs.Live.{Open}
-use Rattle.cd_world.specs.Files.{Files, without_mark}
+use Rattle.cd_world.specs.Files.{without_mark}
 use Rattle.cd_world.proofs.CloseSteps.{closes-done, closes-failed}
 use Rattle.cd_world.proofs.memory.MemoryWorldWorld.close.Goals as goal
 

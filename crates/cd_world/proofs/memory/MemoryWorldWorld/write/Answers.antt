@@ -1,4 +1,4 @@
-use Rattle.std.proofs.Common.{◌≡◌, ◌<◌, ◌==◌, true, arith}
+use Rattle.std.proofs.Common.{◌≡◌, ◌==◌, true, arith}
 use Rattle.std.proofs.lemmas.Bool.Decides.{nat_tests}
 use Rattle.cd_world.specs.declared.event.Use.TheVariants.{Writing}
 use Rattle.cd_world.specs.Live.{open_as}

@@ -1,6 +1,5 @@
-use Rattle.std.proofs.Common.{◌≡◌, Some, [], List, ℕ, ap, ◌∙◌}
+use Rattle.std.proofs.Common.{Some, List, ℕ, ap, ◌∙◌}
 use Rattle.std.proofs.lemmas.Result.{on_ok_weaker}
-use Rattle.cd_world.specs.declared.store.Stored.{Stored}
 use Rattle.cd_world.specs.Store.{held, with_file}
 use Rattle.cd_world.proofs.StoreSteps.{held-set, held-push}
 use Rattle.cd_world.proofs.store.Store.make_empty.Goals as goal

@@ -1,4 +1,4 @@
-use Rattle.std.proofs.Common.{◌≡◌, None}
+use Rattle.std.proofs.Common.{None}
 use Rattle.cd_world.proofs.StoreSteps.{held-set, held-absent}
 use Rattle.cd_world.proofs.store.Store.remove.Goals as goal
 

@@ -1,4 +1,4 @@
-use Rattle.std.proofs.Common.{◌≡◌, ◌<◌, ◌∷◌, ◌++◌, length, List, IsTrue, subst, sym, ap, ◌∙◌, arith}
+use Rattle.std.proofs.Common.{List, IsTrue, subst, sym, ap, ◌∙◌, arith}
 use Rattle.cd_world.specs.declared.table.OpenFile.{OpenFile}
 use Rattle.cd_world.specs.Live.{rises}
 use Rattle.cd_world.specs.Table.{live_of}
