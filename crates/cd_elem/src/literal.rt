@@ -19,6 +19,16 @@ impl Model for Literal {
     ghost view = { λ a. string_bytes a.text };
 }
 
+impl From<String> for Literal {
+    ghost use Rattle.std.specs.Prelude.{string_bytes};
+
+    ghost from_gives = { λ text literal. literal ≡ string_bytes text };
+
+    fn from(text: String) -> Literal {
+        Literal { text }
+    }
+}
+
 impl Literal {
     /// A copy of `text`, of any length.
     pub fn new(alloc: Global, text: &str) -> Result<Literal, NoMemory>

@@ -2,7 +2,9 @@ pub mod Causes
 pub mod Events
 pub mod Files
 pub mod Known
+pub mod Law
 pub mod Live
 pub mod Memory
+pub mod Plan
 pub mod Store
 pub mod Table

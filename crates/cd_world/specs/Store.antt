@@ -1,24 +1,56 @@
--- Files in memory as a function from names to bytes.
-use Rattle.std.specs.Prelude.{◌≡◌, ◌≢◌, ℕ, ◌<◌, List, length, slice_index_or, [], ◌∷◌, Option, Some, None, if◌then◌else◌}
+-- The members of a world in memory as functions from names.
+use Rattle.std.specs.Prelude.{◌≡◌, ◌≢◌, ℕ, ◌<◌, List, length, slice_index_or, [], ◌∷◌, Option, Some, None, map, if◌then◌else◌, ◌==◌}
 use Rattle.std.specs.Str.{bytes_eq}
-use Rattle.cd_world.specs.declared.store.Stored.{Stored}
+use Rattle.cd_world.specs.declared.plan.Plan.{Plan}
+use Rattle.cd_world.specs.declared.store.Member.{Member}
+use Rattle.cd_world.specs.declared.store.MemoryFile.{MemoryFile}
 
--- the bytes of the first file with this name, and None where there is none
-abbrev pub held : List Stored → List ℕ → Option (List ℕ)
-held [] name = None
-held (file ∷ files) name = if bytes_eq file.name name then file.bytes else held files name
+-- the first member with this name
+abbrev pub found : List Member → List ℕ → Option Member
+found [] name = None
+found (m ∷ members) name = if bytes_eq m.name name then Some m else found members name
 
--- a file that is not there has no bytes
+abbrev pub bytes_of_member : Option Member → Option (List ℕ)
+bytes_of_member None = None
+bytes_of_member (Some m) = m.bytes
+
+abbrev pub plan_of_member : Option Member → Option Plan
+plan_of_member None = None
+plan_of_member (Some m) = m.plan
+
+-- the bytes that a name holds, and None where it is not there
+abbrev pub held : List Member → List ℕ → Option (List ℕ)
+held members name = bytes_of_member (found members name)
+
+-- the plan of a name, and None where it has none
+abbrev pub plan_of : List Member → List ℕ → Option Plan
+plan_of members name = plan_of_member (found members name)
+
+-- what is not there holds no bytes
 abbrev pub bytes_in : Option (List ℕ) → List ℕ
 bytes_in None = []
 bytes_in (Some bytes) = bytes
 
--- another file, or none, under one name
+-- other bytes, or none, under one name
 abbrev pub with_file : List ℕ → Option (List ℕ) → (List ℕ → Option (List ℕ)) → List ℕ → Option (List ℕ)
 with_file name file files other = if bytes_eq name other then file else files other
 
--- the first file with this name stands at this place
-pub record IsFirst (files : List Stored) (name : List ℕ) (place : ℕ) : Type 0 where
-  pub within : place < length files
-  pub here : (d : Stored) → (slice_index_or files place d).name ≡ name
-  pub before : (k : ℕ) (d : Stored) → k < place → (slice_index_or files k d).name ≢ name
+-- the first member with this name stands at this place
+pub record IsFirst (members : List Member) (name : List ℕ) (place : ℕ) : Type 0 where
+  pub within : place < length members
+  pub here : (d : Member) → (slice_index_or members place d).name ≡ name
+  pub before : (k : ℕ) (d : Member) → k < place → (slice_index_or members k d).name ≢ name
+
+-- what a world begins with: the bytes, and the plan of which nothing was called yet
+
+abbrev pub fresh_plan : MemoryFile → Plan
+fresh_plan file = record { read_cuts = file.read_cuts; write_cuts = file.write_cuts; fails = file.fails; opens = 0; reads = 0; writes = 0; closes = 0 }
+
+abbrev pub member_of : MemoryFile → Member
+member_of file = record { name = file.name; bytes = Some file.bytes; plan = Some (fresh_plan file) }
+
+-- The name of the member that a file is, by the name that it is opened by: one more `<` in front where that begins with `<`.
+-- So no file is a standard stream.
+abbrev pub member_name : List ℕ → List ℕ
+member_name [] = []
+member_name (c ∷ name) = if c == 60 then 60 ∷ c ∷ name else c ∷ name

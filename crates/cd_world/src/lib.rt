@@ -4,7 +4,6 @@
 mod event;
 mod memory;
 mod plan;
-mod space;
 mod store;
 mod table;
 mod world;
@@ -12,7 +11,7 @@ mod world;
 pub use event::{Descriptor, Event, EventList, Use};
 pub use memory::MemoryWorld;
 pub use plan::{Fail, FailList};
-pub use space::{MemoryFile, MemoryFiles};
+pub use store::{MemoryFile, MemoryFiles};
 pub use table::{OpenFile, OpenTable};
 pub use world::{CloseFailed, World, WorldError};
 

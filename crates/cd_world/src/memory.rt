@@ -1,109 +1,116 @@
 // An outside in memory.
-ghost use Rattle.std.specs.Prelude.{◌≡◌, ◌<◌, ◌≤◌, ◌++◌, ◌+◌, ◌⊎◌, ◌∷◌, [], IfOk, OnOk, OnErr, false, codes, length, take, drop, min, vec_len, vec_capacity};
+ghost use Rattle.std.specs.Prelude.{◌≡◌, ◌<◌, ◌≤◌, ◌++◌, ◌+◌, ◌∷◌, [], ℕ, Some, None, IfOk, OnOk, OnErr, MatchOption, false, codes, length, take, drop, min, vec_len, vec_capacity, map};
 ghost use Rattle.cd_world.specs.Causes.{HasCause, Rose};
 ghost use Rattle.cd_world.specs.Events.{gave, wrote, opened, opening};
+ghost use Rattle.cd_world.specs.Plan.{after, counted};
+ghost use Rattle.cd_world.specs.Law.{is_missing};
+ghost use Rattle.cd_world.specs.Store.{held, member_name};
 ghost use Rattle.cd_world.specs.Table.{live_of};
 
 use crate::event::{Descriptor, Event, EventList, Use};
 use crate::plan::Call;
-use crate::space::{Member, MemoryFiles, Space, member_of, spaces_of};
+use crate::store::{MemoryFiles, Store, member_name};
 use crate::table::{OpenFile, OpenTable};
 use crate::world::{CloseFailed, World, WorldError};
-use cd_elem::{ByteList, Items, Literal, NoMemory, Roomy};
+use cd_elem::{ByteList, Literal, NoMemory, Roomy};
 use std::alloc::Global;
 
 /// The names of the standard streams.
 const STDIN: &str = "<stdin>";
-
 const STDOUT: &str = "<stdout>";
-
 const STDERR: &str = "<stderr>";
+
+/// What stands beside an open file: the name of its member, and how many bytes were given of it.
+#[derive(Drop)]
+pub struct Side {
+    pub member: Literal,
+    pub given: usize,
+}
 
 /// Files and streams in memory, which tell what they hold and what was called. Reads and writes are cut and calls fail
 /// as its members say.
 #[derive(Drop)]
 pub struct MemoryWorld {
     alloc: Global,
-    streams: Space,
-    files: Space,
+    store: Store,
     input_given: usize,
     table: OpenTable,
-    given: Vec<usize>,
+    sides: Vec<Side>,
     log: EventList,
     faults: u64,
-    ghost paired: { vec_len given ≡ vec_len table.files },
+    // each open file has its member beside it
+    ghost paired: { map (λ side. side.member) sides.items ≡ map (λ entry. member_name entry.name) table.files.items },
     // the room for the closes of all that is open
     ghost room: { vec_len table.files ≤ log.1 },
 }
 
 impl MemoryWorld {
-    ghost use Rattle.std.specs.Prelude.{ℕ, List, Contains};
+    ghost use Rattle.std.specs.Prelude.{List, Contains};
     ghost use Rattle.cd_world.specs.declared.event.Use.{Use};
     ghost use Rattle.cd_world.specs.declared.event.Use.TheVariants.{Reading, Writing};
-    ghost use Rattle.cd_world.specs.Files.{ReadsInput, ReadsFile, WritesFile, WritesOutput, WritesErrors, after_open, emptied, with_given, without_mark};
+    ghost use Rattle.cd_world.specs.Files.{ReadsInput, ReadsFile, WritesFile, WritesOutput, WritesErrors, after_open, emptied, left_at, with_given, without_mark};
+    ghost use Rattle.cd_world.specs.Law.{ReadsBy, WritesBy, HoldsMore, where_failed, without_marked};
     ghost use Rattle.cd_world.specs.Live.{IsLive, Open, Opens, Removes, open_as};
-    ghost use Rattle.cd_world.specs.Memory.{files_of};
+    ghost use Rattle.cd_world.specs.Memory.{files_in, held_in, plan_in, live_in, last_in, log_in, faults_in, open_fails};
     ghost use Rattle.cd_world.specs.Table.{open_of};
 
     /// A world with these files and streams, in which nothing was called yet.
     pub fn new(alloc: Global, files: MemoryFiles) -> Result<MemoryWorld, NoMemory>
-        ensures log { IfOk result (λ world. world.log.0 ≡ []) }
-        ensures faults { IfOk result (λ world. world.faults ≡ 0) }
-        ensures live { IfOk result (λ world. world.table.files.items ≡ []) }
-        ensures last { IfOk result (λ world. world.table.last ≡ 2) }
+        ensures log { IfOk result (λ world. log_in world ≡ []) }
+        ensures faults { IfOk result (λ world. faults_in world ≡ 0) }
+        ensures live { IfOk result (λ world. live_in world ≡ []) }
+        ensures last { IfOk result (λ world. last_in world ≡ 2) }
     {
-        let (mut streams, files) = spaces_of(alloc, files)?;
-        for name in [STDIN, STDOUT, STDERR] {
-            streams.store.append(alloc, name, &[])?;
-        }
+        let mut store = Store::new(alloc, files)?;
+        store.make_stream(alloc, STDIN)?;
+        store.make_stream(alloc, STDOUT)?;
+        store.make_stream(alloc, STDERR)?;
         Ok(MemoryWorld {
             alloc,
-            streams,
-            files,
+            store,
             input_given: 0,
             table: OpenTable::new(alloc),
-            given: Vec::new(alloc),
+            sides: Vec::new(alloc),
             log: Roomy::new(alloc),
             faults: 0,
         })
     }
 
-    /// The bytes of a file or a stream, by the name that its member has or would have. None where there is no such file.
-    pub fn file(&self, name: &str) -> Option<&[u8]> {
-        match member_of(name) {
-            Member::Stream(name) => self.streams.store.find(name),
-            Member::File(name) => self.files.store.find(name),
-        }
+    /// The bytes of a file or a stream, by the name of its member. None where there is no such file.
+    pub fn file(&self, name: &str) -> Option<&[u8]>
+        ensures { MatchOption result (held_in self.now name.now ≡ None) (λ bytes. held_in self.now name.now ≡ Some bytes.now) }
+    {
+        self.store.find(name)
     }
 
     /// The calls so far.
     pub fn log(&self) -> &EventList
-        ensures { result.now ≡ self.now.log }
+        ensures { result.now.0 ≡ log_in self.now }
     {
         &self.log
     }
 
     /// How many calls have failed.
     pub fn faults(&self) -> u64
-        ensures { result ≡ self.now.faults }
+        ensures { result ≡ faults_in self.now }
     {
         self.faults
     }
 
     /// Makes room for a call's event and for the closes of all that is open.
     fn reserve(&mut self) -> Result<(), NoMemory>
-        ensures same { self.new ≡ record self.old { log = self.new.log; table = self.new.table; given = self.new.given; paired = self.new.paired; room = self.new.room } }
-        ensures told { files_of self.new ≡ files_of self.old }
+        ensures same { self.new ≡ record self.old { log = self.new.log; table = self.new.table; sides = self.new.sides; paired = self.new.paired; room = self.new.room } }
+        ensures told { files_in self.new ≡ files_in self.old }
         ensures log { self.new.log.0 ≡ self.old.log.0 }
         ensures files { self.new.table.files.items ≡ self.old.table.files.items }
         ensures last { self.new.table.last ≡ self.old.table.last }
-        ensures given { self.new.given.items ≡ self.old.given.items }
+        ensures sides { self.new.sides.items ≡ self.old.sides.items }
         ensures room { OnOk result (vec_len self.new.table.files + 2 ≤ self.new.log.1) }
         ensures table { OnOk result (vec_len self.new.table.files < vec_capacity self.new.table.files) }
-        ensures counts { OnOk result (vec_len self.new.given < vec_capacity self.new.given) }
+        ensures beside { OnOk result (vec_len self.new.sides < vec_capacity self.new.sides) }
     {
         self.table.reserve()?;
-        self.given.reserve(1)?;
+        self.sides.reserve(1)?;
         let Some(count) = self.table.files.len().checked_add(2) else {
             return Err(NoMemory);
         };
@@ -112,83 +119,108 @@ impl MemoryWorld {
 
     /// Counts a failure and notes its event.
     fn fail(&mut self, event: Event)
-        requires room { vec_len self.old.table.files + 1 ≤ self.old.log.1 }
+        requires { vec_len self.old.table.files + 1 ≤ self.old.log.1 }
         ensures cause { Rose self.old.faults self.new.faults }
         ensures later { self.old.faults ≤ self.new.faults }
         ensures log { self.new.log.0 ≡ self.old.log.0 ++ event ∷ [] }
         ensures table { self.new.table.files.items ≡ self.old.table.files.items }
         ensures last { self.new.table.last ≡ self.old.table.last }
-        ensures files { files_of self.new ≡ files_of self.old }
+        ensures files { files_in self.new ≡ files_in self.old }
+        ensures store { self.new.store ≡ self.old.store }
     {
         self.faults = self.faults.saturating_add(1);
         self.log.push(event).unwrap();
     }
 
+    /// Whether an open is refused.
+    fn is_refused(&self, use_of: Use, name: &str, member: &str) -> bool
+        requires { member.now ≡ member_name name.now }
+        ensures value { result ≡ open_fails use_of name.now self.now }
+        ensures left { result ≡ false → self.now.table.last < 18446744073709551615 }
+    {
+        self.store.is_failing(Call::Opening, member)
+            || self.table.is_spent()
+            || is_absent(&self.store, use_of, member)
+    }
+
     /// Makes or empties a file that is not opened for reading.
-    fn prepare(&mut self, use_of: Use, name: &str) -> Result<(), NoMemory>
-        ensures rest { self.new ≡ record self.old { files = self.new.files } }
-        ensures ok { OnOk result (files_of self.new ≡ emptied use_of name.now (files_of self.old)) }
-        ensures err { OnErr result (files_of self.new ≡ files_of self.old) }
+    fn prepare(&mut self, use_of: Use, name: &str, member: &str) -> Result<(), NoMemory>
+        requires { member.now ≡ member_name name.now }
+        ensures rest { self.new ≡ record self.old { store = self.new.store } }
+        ensures ok { OnOk result (files_in self.new ≡ emptied use_of name.now (files_in self.old)) }
+        ensures err { OnErr result (files_in self.new ≡ files_in self.old) }
+        ensures held { OnErr result (held_in self.new ≡ held_in self.old) }
+        ensures plans { plan_in self.new ≡ plan_in self.old }
     {
         match use_of {
             Use::Reading => Ok(()),
-            Use::Writing | Use::Marking => self.files.store.make_empty(self.alloc, name),
+            Use::Writing | Use::Marking => self.store.make_empty(self.alloc, member),
         }
     }
 
     /// Adds an open file, of which nothing was given.
-    fn admit(&mut self, use_of: Use, entry: Literal) -> Descriptor
+    fn admit(&mut self, use_of: Use, entry: Literal, member: Literal) -> Descriptor
         requires next { self.old.table.last < 18446744073709551615 }
+        requires name { member ≡ member_name entry }
         requires room { vec_len self.old.table.files + 2 ≤ self.old.log.1 }
         requires table { vec_len self.old.table.files < vec_capacity self.old.table.files }
-        requires counts { vec_len self.old.given < vec_capacity self.old.given }
-        ensures opened { Opens use_of entry (live_of self.old.table.files.items) (live_of self.new.table.files.items) self.old.table.last self.new.table.last (Ok result) }
-        ensures files { files_of self.new ≡ with_given result.0 0 (files_of self.old) }
+        requires beside { vec_len self.old.sides < vec_capacity self.old.sides }
+        ensures opened { Opens use_of entry (live_in self.old) (live_in self.new) self.old.table.last self.new.table.last (Ok result) }
+        ensures files { files_in self.new ≡ with_given result.0 0 (files_in self.old) }
         ensures log { self.new.log ≡ self.old.log }
         ensures len { vec_len self.new.table.files ≡ vec_len self.old.table.files + 1 }
         ensures faults { self.new.faults ≡ self.old.faults }
+        ensures store { self.new.store ≡ self.old.store }
     {
         let descriptor = self.table.add(use_of, entry);
-        self.given.push(0).unwrap();
+        self.sides.push_reserved(Side { member, given: 0 });
         descriptor
-    }
-
-    /// Whether an open is refused: it is to fail, no descriptor is left, or a file to be read is not there.
-    fn is_refused(&self, use_of: Use, name: &str) -> bool
-        ensures { result ≡ false → self.now.table.last < 18446744073709551615 }
-    {
-        self.files.plans.is_failing(Call::Opening, name)
-            || self.table.is_spent()
-            || (use_of == Use::Reading && self.files.store.find(name).is_none())
     }
 
     /// Opens a file for a use.
     fn open_for(&mut self, use_of: Use, name: &str) -> Result<Descriptor, WorldError>
         ensures cause { HasCause self.old.faults self.new.faults result }
-        ensures live { Opens use_of name.now (live_of self.old.table.files.items) (live_of self.new.table.files.items) self.old.table.last self.new.table.last result }
+        ensures live { Opens use_of name.now (live_in self.old) (live_in self.new) self.old.table.last self.new.table.last result }
         ensures log { self.new.log.0 ≡ self.old.log.0 ++ opened use_of name.now result }
-        ensures files { files_of self.new ≡ after_open use_of name.now result (files_of self.old) }
+        ensures files { files_in self.new ≡ after_open use_of name.now result (files_in self.old) }
     {
         let entry = Literal::new(self.alloc, name)?;
         let told = Literal::new(self.alloc, name)?;
+        let member = member_name(self.alloc, name)?;
         self.reserve()?;
-        if self.is_refused(use_of, name) {
-            self.files.plans.count(Call::Opening, name);
+        if self.is_refused(use_of, name, member.as_str()) {
+            self.store.count(Call::Opening, member.as_str());
             self.fail(Event::OpenFailed(told));
             return Err(WorldError::Failed);
         }
-        self.prepare(use_of, name)?;
-        self.files.plans.count(Call::Opening, name);
-        let descriptor = self.admit(use_of, entry);
-        self.log
-            .push(opened_event(use_of, told, descriptor))
-            .unwrap();
+        self.prepare(use_of, name, member.as_str())?;
+        self.store.count(Call::Opening, member.as_str());
+        let descriptor = self.admit(use_of, entry, member);
+        self.log.push(opened_event(use_of, told, descriptor)).unwrap();
         Ok(descriptor)
+    }
+
+    /// Notes the event of a call that failed, and none where memory was wanting, and answers why it was refused.
+    fn refuse(&mut self, error: WorldError, event: Event) -> WorldError
+        requires { vec_len self.old.table.files + 1 ≤ self.old.log.1 }
+        ensures same { result ≡ error }
+        ensures later { self.old.faults ≤ self.new.faults }
+        ensures cause { error ≡ WorldError.Failed → Rose self.old.faults self.new.faults }
+        ensures log { self.new.log.0 ≡ self.old.log.0 ++ where_failed error event }
+        ensures table { self.new.table.files.items ≡ self.old.table.files.items }
+        ensures last { self.new.table.last ≡ self.old.table.last }
+        ensures files { files_in self.new ≡ files_in self.old }
+        ensures store { self.new.store ≡ self.old.store }
+    {
+        match error {
+            WorldError::Failed => self.fail(event),
+            WorldError::NoMemory => {}
+        }
+        error
     }
 
     /// Gives of standard input.
     fn read_input(&mut self, from: Descriptor, into: &mut [u8]) -> Result<usize, WorldError>
-        requires standard { from.0 ≡ 0 }
         requires some { 0 < length into.old }
         requires room { vec_len self.old.table.files + 1 ≤ self.old.log.1 }
         ensures within { IfOk result (λ count. count ≤ length into.new) }
@@ -196,27 +228,26 @@ impl MemoryWorld {
         ensures table { self.new.table.files.items ≡ self.old.table.files.items }
         ensures last { self.new.table.last ≡ self.old.table.last }
         ensures log { self.new.log.0 ≡ self.old.log.0 ++ gave from into.new result }
-        ensures files { ReadsInput into.new result (files_of self.old) (files_of self.new) }
+        ensures files { ReadsInput into.new result (files_in self.old) (files_in self.new) }
+        ensures held { held_in self.new ≡ held_in self.old }
+        ensures by_plan { ReadsBy (plan_in self.old (codes "<stdin>")) (files_in self.old).input into.new result }
+        ensures plans { plan_in self.new ≡ after result (counted Call.Reading (codes "<stdin>")) (plan_in self.old) }
     {
-        if self.streams.plans.is_failing(Call::Reading, STDIN) {
-            self.streams.plans.count(Call::Reading, STDIN);
-            self.fail(Event::ReadFailed(from));
-            return Err(WorldError::Failed);
-        }
-        let limit = self.streams.plans.read_limit(STDIN);
-        let bytes = self.streams.store.bytes_of(STDIN);
         let given = self.input_given;
-        let count = copy_front(rest_of(bytes, given), into, limit);
-        let told = Items::from_slice(self.alloc, &into[..count])?;
-        self.streams.plans.count(Call::Reading, STDIN);
-        self.input_given = given + count;
-        self.log.push(gave_event(from, told)).unwrap();
-        Ok(count)
+        match self.store.give(self.alloc, STDIN, given, into) {
+            Ok(told) => {
+                let count = told.len();
+                self.input_given = given + count;
+                self.log.push(gave_event(from, told)).unwrap();
+                Ok(count)
+            }
+            Err(error) => Err(self.refuse(error, Event::ReadFailed(from))),
+        }
     }
 
     /// Gives of an open file.
     fn read_file(&mut self, from: Descriptor, into: &mut [u8]) -> Result<usize, WorldError>
-        requires readable { IsLive Reading from (live_of self.old.table.files.items) }
+        requires readable { IsLive Reading from (live_in self.old) }
         requires some { 0 < length into.old }
         requires room { vec_len self.old.table.files + 1 ≤ self.old.log.1 }
         ensures within { IfOk result (λ count. count ≤ length into.new) }
@@ -224,25 +255,26 @@ impl MemoryWorld {
         ensures table { self.new.table.files.items ≡ self.old.table.files.items }
         ensures last { self.new.table.last ≡ self.old.table.last }
         ensures log { self.new.log.0 ≡ self.old.log.0 ++ gave from into.new result }
-        ensures files { (name : List ℕ) → Contains (live_of self.old.table.files.items) (open_as Reading from name)
-            → ReadsFile from.0 name into.new result (files_of self.old) (files_of self.new) }
+        ensures files { (name : List ℕ) → Contains (live_in self.old) (open_as Reading from name)
+            → ReadsFile from.0 name into.new result (files_in self.old) (files_in self.new) }
+        ensures held { held_in self.new ≡ held_in self.old }
+        ensures by_plan { (name : List ℕ) → Contains (live_in self.old) (open_as Reading from name)
+            → ReadsBy (plan_in self.old (member_name name)) (left_at from.0 name (files_in self.old)) into.new result }
+        ensures plans { (name : List ℕ) → Contains (live_in self.old) (open_as Reading from name)
+            → plan_in self.new ≡ after result (counted Call.Reading (member_name name)) (plan_in self.old) }
     {
         let place = self.table.place_of(from);
-        let name = self.table.files[place].name.as_str();
-        if self.files.plans.is_failing(Call::Reading, name) {
-            self.files.plans.count(Call::Reading, name);
-            self.fail(Event::ReadFailed(from));
-            return Err(WorldError::Failed);
+        let given = self.sides[place].given;
+        let member = self.sides[place].member.as_str();
+        match self.store.give(self.alloc, member, given, into) {
+            Ok(told) => {
+                let count = told.len();
+                self.sides[place].given = given + count;
+                self.log.push(gave_event(from, told)).unwrap();
+                Ok(count)
+            }
+            Err(error) => Err(self.refuse(error, Event::ReadFailed(from))),
         }
-        let limit = self.files.plans.read_limit(name);
-        let bytes = self.files.store.bytes_of(name);
-        let given = self.given[place];
-        let count = copy_front(rest_of(bytes, given), into, limit);
-        let told = Items::from_slice(self.alloc, &into[..count])?;
-        self.files.plans.count(Call::Reading, name);
-        self.given[place] = given + count;
-        self.log.push(gave_event(from, told)).unwrap();
-        Ok(count)
     }
 
     /// Writes to a standard stream, by its name.
@@ -259,25 +291,25 @@ impl MemoryWorld {
         ensures table { self.new.table.files.items ≡ self.old.table.files.items }
         ensures last { self.new.table.last ≡ self.old.table.last }
         ensures log { self.new.log.0 ≡ self.old.log.0 ++ wrote to bytes.now result }
-        ensures output { name.now ≡ codes "<stdout>" → WritesOutput bytes.now result (files_of self.old) (files_of self.new) }
-        ensures errors { name.now ≡ codes "<stderr>" → WritesErrors bytes.now result (files_of self.old) (files_of self.new) }
+        ensures output { name.now ≡ codes "<stdout>" → WritesOutput bytes.now result (files_in self.old) (files_in self.new) }
+        ensures errors { name.now ≡ codes "<stderr>" → WritesErrors bytes.now result (files_in self.old) (files_in self.new) }
+        ensures held { HoldsMore name.now bytes.now result (held_in self.old) (held_in self.new) }
+        ensures by_plan { WritesBy (plan_in self.old name.now) bytes.now result }
+        ensures plans { plan_in self.new ≡ after result (counted Call.Writing name.now) (plan_in self.old) }
     {
-        if self.streams.plans.is_failing(Call::Writing, name) {
-            self.streams.plans.count(Call::Writing, name);
-            self.fail(Event::WriteFailed(to));
-            return Err(WorldError::Failed);
+        match self.store.put(self.alloc, name, bytes) {
+            Ok(told) => {
+                let count = told.len();
+                self.log.push(Event::Wrote(to, told)).unwrap();
+                Ok(count)
+            }
+            Err(error) => Err(self.refuse(error, Event::WriteFailed(to))),
         }
-        let front = front_of(bytes, self.streams.plans.write_limit(name));
-        let told = Items::from_slice(self.alloc, front)?;
-        self.streams.store.append(self.alloc, name, front)?;
-        self.streams.plans.count(Call::Writing, name);
-        self.log.push(Event::Wrote(to, told)).unwrap();
-        Ok(front.len())
     }
 
     /// Writes to an open file.
     fn write_file(&mut self, to: Descriptor, bytes: &[u8]) -> Result<usize, WorldError>
-        requires writable { IsLive Writing to (live_of self.old.table.files.items) }
+        requires writable { IsLive Writing to (live_in self.old) }
         requires room { vec_len self.old.table.files + 1 ≤ self.old.log.1 }
         requires some { 0 < length bytes.now }
         ensures within { IfOk result (λ count. (0 < count) × (count ≤ length bytes.now)) }
@@ -285,79 +317,68 @@ impl MemoryWorld {
         ensures table { self.new.table.files.items ≡ self.old.table.files.items }
         ensures last { self.new.table.last ≡ self.old.table.last }
         ensures log { self.new.log.0 ≡ self.old.log.0 ++ wrote to bytes.now result }
-        ensures file { (name : List ℕ) → Contains (live_of self.old.table.files.items) (open_as Writing to name)
-            → WritesFile name bytes.now result (files_of self.old) (files_of self.new) }
+        ensures file { (name : List ℕ) → Contains (live_in self.old) (open_as Writing to name)
+            → WritesFile name bytes.now result (files_in self.old) (files_in self.new) }
+        ensures held { (name : List ℕ) → Contains (live_in self.old) (open_as Writing to name)
+            → HoldsMore (member_name name) bytes.now result (held_in self.old) (held_in self.new) }
+        ensures by_plan { (name : List ℕ) → Contains (live_in self.old) (open_as Writing to name)
+            → WritesBy (plan_in self.old (member_name name)) bytes.now result }
+        ensures plans { (name : List ℕ) → Contains (live_in self.old) (open_as Writing to name)
+            → plan_in self.new ≡ after result (counted Call.Writing (member_name name)) (plan_in self.old) }
     {
         let place = self.table.place_of(to);
-        let name = self.table.files[place].name.as_str();
-        if self.files.plans.is_failing(Call::Writing, name) {
-            self.files.plans.count(Call::Writing, name);
-            self.fail(Event::WriteFailed(to));
-            return Err(WorldError::Failed);
+        let member = self.sides[place].member.as_str();
+        match self.store.put(self.alloc, member, bytes) {
+            Ok(told) => {
+                let count = told.len();
+                self.log.push(Event::Wrote(to, told)).unwrap();
+                Ok(count)
+            }
+            Err(error) => Err(self.refuse(error, Event::WriteFailed(to))),
         }
-        let front = front_of(bytes, self.files.plans.write_limit(name));
-        let told = Items::from_slice(self.alloc, front)?;
-        self.files.store.append(self.alloc, name, front)?;
-        self.files.plans.count(Call::Writing, name);
-        self.log.push(Event::Wrote(to, told)).unwrap();
-        Ok(front.len())
     }
 
-    /// Takes an open file out of the table. It takes no memory.
-    fn dismiss(&mut self, which: Descriptor) -> OpenFile
-        requires { (use_of : Use) × IsLive use_of which (live_of self.old.table.files.items) }
-        ensures live { Removes which (live_of self.old.table.files.items) (live_of self.new.table.files.items) }
+    /// Takes an open file out of the table, and gives it with its member's name. It takes no memory.
+    fn dismiss(&mut self, which: Descriptor) -> (OpenFile, Literal)
+        requires { (use_of : Use) × IsLive use_of which (live_in self.old) }
+        ensures live { Removes which (live_in self.old) (live_in self.new) }
         ensures last { self.new.table.last ≡ self.old.table.last }
         ensures faults { self.new.faults ≡ self.old.faults }
         ensures log { self.new.log ≡ self.old.log }
         ensures room { vec_len self.new.table.files + 1 ≤ self.new.log.1 }
-        ensures files { files_of self.new ≡ with_given which.0 0 (files_of self.old) }
-        ensures entry { (o : Open) → Contains (live_of self.old.table.files.items) o → o.descriptor ≡ which → o ≡ open_of result }
+        ensures files { files_in self.new ≡ with_given which.0 0 (files_in self.old) }
+        ensures store { self.new.store ≡ self.old.store }
+        ensures entry { (o : Open) → Contains (live_in self.old) o → o.descriptor ≡ which → o ≡ open_of result.0 }
+        ensures member { result.1 ≡ member_name result.0.name }
     {
-        let (place, entry) = self.table.remove(which);
-        let _ = self.given.remove(place);
-        entry
+        let (place, open) = self.table.remove(which);
+        let side = self.sides.remove(place);
+        (open, side.member)
     }
 
     /// Takes a mark's file away, and leaves every other. It takes no memory.
-    fn remove_mark(&mut self, use_of: Use, name: &str)
-        ensures rest { self.new ≡ record self.old { files = self.new.files } }
-        ensures files { files_of self.new ≡ without_mark use_of name.now (files_of self.old) }
+    fn remove_mark(&mut self, open: &OpenFile, member: &str)
+        requires { member.now ≡ member_name open.now.name }
+        ensures rest { self.new ≡ record self.old { store = self.new.store } }
+        ensures files { files_in self.new ≡ without_mark open.now.use_of open.now.name (files_in self.old) }
+        ensures held { held_in self.new ≡ without_marked open.now.use_of member.now (held_in self.old) }
+        ensures plans { plan_in self.new ≡ plan_in self.old }
     {
-        match use_of {
+        match open.use_of {
             Use::Reading | Use::Writing => {}
-            Use::Marking => self.files.store.remove(name),
+            Use::Marking => self.store.remove(member),
         }
     }
 }
 
-/// What is left of some bytes after a front.
-fn rest_of(bytes: &[u8], given: usize) -> &[u8]
-    ensures { result.now ≡ drop given bytes.now }
+/// Whether a file that is to be read is not there.
+fn is_absent(store: &Store, use_of: Use, member: &str) -> bool
+    ensures { result ≡ is_missing use_of (held store.now.members.items member.now) }
 {
-    bytes.get(given..).unwrap_or(&[])
-}
-
-/// A front of some bytes, with at most so many.
-fn front_of(bytes: &[u8], limit: usize) -> &[u8]
-    ensures count { length result.now ≡ min limit (length bytes.now) }
-    ensures front { result.now ≡ take (length result.now) bytes.now }
-{
-    &bytes[..limit.min(bytes.len())]
-}
-
-/// Copies as many bytes as fit, and at most so many, and says how many.
-fn copy_front(from: &[u8], into: &mut [u8], limit: usize) -> usize
-    requires { 0 < limit }
-    ensures count { result ≡ min limit (min (length from.now) (length into.old)) }
-    ensures within { result ≤ length into.new }
-    ensures had { result ≤ length from.now }
-    ensures bytes { from.now ≡ take result into.new ++ drop result from.now }
-    ensures end { result ≡ 0 → 0 < length into.old → from.now ≡ [] }
-{
-    let count = limit.min(from.len().min(into.len()));
-    into[..count].copy_from_slice(&from[..count]);
-    count
+    match use_of {
+        Use::Reading => store.find(member).is_none(),
+        Use::Writing | Use::Marking => false,
+    }
 }
 
 /// The event of a read that gave these bytes.
@@ -384,24 +405,24 @@ fn opened_event(use_of: Use, name: Literal, descriptor: Descriptor) -> Event
 
 impl World for MemoryWorld {
     ghost use Rattle.std.specs.Prelude.{true};
-    ghost use Rattle.cd_world.specs.Memory.{files_of};
     ghost use Rattle.cd_world.specs.Known.{all-known};
+    ghost use Rattle.cd_world.specs.Memory.{files_in, live_in, last_in, log_in, faults_in};
 
-    ghost faults = { λ w. w.faults };
+    ghost faults = { faults_in };
 
-    ghost live = { λ w. live_of w.table.files.items };
+    ghost live = { live_in };
 
-    ghost last = { λ w. w.table.last };
+    ghost last = { last_in };
 
     ghost tells_files = { true };
 
     ghost tells_log = { true };
 
-    ghost files = { files_of };
+    ghost files = { files_in };
 
-    ghost log = { λ w. w.log.0 };
+    ghost log = { log_in };
 
-    ghost known = { λ w. all-known 2 (live_of w.table.files.items) w.table.last w.table.rising };
+    ghost known = { λ w. all-known 2 (live_in w) (last_in w) w.table.rising };
 
     fn open_read(&mut self, name: &str) -> Result<Descriptor, WorldError> {
         self.open_for(Use::Reading, name)
@@ -435,15 +456,14 @@ impl World for MemoryWorld {
     }
 
     fn close(&mut self, which: Descriptor) -> Result<(), CloseFailed> {
-        let entry = self.dismiss(which);
-        let name = entry.name.as_str();
-        let is_failing = self.files.plans.is_failing(Call::Closing, name);
-        self.files.plans.count(Call::Closing, name);
+        let (open, member) = self.dismiss(which);
+        let is_failing = self.store.is_failing(Call::Closing, member.as_str());
+        self.store.count(Call::Closing, member.as_str());
         if is_failing {
             self.fail(Event::CloseFailed(which));
             return Err(CloseFailed);
         }
-        self.remove_mark(entry.use_of, name);
+        self.remove_mark(&open, member.as_str());
         self.log.push(Event::Closed(which)).unwrap();
         Ok(())
     }

@@ -92,7 +92,7 @@ impl OpenTable {
             descriptor,
             name,
         };
-        self.files.push(entry).unwrap();
+        self.files.push_reserved(entry);
         self.last += 1;
         descriptor
     }

@@ -1,9 +1,8 @@
-use Rattle.std.proofs.Common.{None, refl}
-use Rattle.cd_world.proofs.FilesSteps.{files-eq, contents-with, unmarked-is, unchanged-is}
+use Rattle.std.proofs.Common.{◌≡◌, List, ℕ, None, ◌∙◌, ap}
+use Rattle.cd_world.specs.Store.{held, with_file}
+use Rattle.cd_world.proofs.FilesSteps.{file-changed, unmarked-is}
 use Rattle.cd_world.proofs.memory.MemoryWorld.remove_mark.Goals as goal
 
-pub returns-in-Reading-clause-files : goal.returns-in-Reading-clause-files
-returns-in-Reading-clause-files c = unchanged-is c.args.use_of c.args.name.now _ c.in-Reading.is
-
 pub returns-in-Marking-clause-files : goal.returns-in-Marking-clause-files
-returns-in-Marking-clause-files c = unmarked-is c.args.use_of c.args.name.now _ _ c.in-Marking.is (files-eq _ _ (contents-with _ _ c.args.name.now None c.remove.ensures) (λ d. refl) refl refl refl)
+returns-in-Marking-clause-files c = unmarked-is c.args.«open».now.use_of c.args.«open».now.name _ _ c.in-Marking.is
+    (file-changed _ _ _ _ c.args.«open».now.name None (c.remove.ensures.held ∙ ap (λ (n : List ℕ). with_file n None (held c.args.self.now.store.members.items)) c.requires))

@@ -1,28 +1,107 @@
-use Rattle.std.proofs.Common.{◌++◌, ◌<◌, Some, length, take, refl, ◌∙◌, ap, arith}
-use Rattle.std.proofs.lemmas.Result.{err_from_is_err_and}
+use Rattle.std.proofs.Common.{◌≡◌, ◌<◌, ◌++◌, ℕ, List, Ok, Err, Some, false, length, take, sym, ◌∙◌, ap, subst, arith}
 use Rattle.cd_world.specs.declared.event.Use.TheVariants.{Writing}
+use Rattle.cd_world.specs.declared.memory.Side.{Side}
+use Rattle.cd_world.specs.declared.plan.Call.TheVariants.{Writing as CallWriting}
+use Rattle.cd_world.specs.declared.store.Store.{Store}
 use Rattle.cd_world.specs.declared.table.OpenFile.{OpenFile}
-use Rattle.cd_world.specs.Live.{Open, open_as}
-use Rattle.cd_world.specs.Store.{held, bytes_in, with_file}
-use Rattle.cd_world.proofs.FilesSteps.{files-eq, contents-with}
-use Rattle.cd_world.proofs.TableSteps.{found-is}
+use Rattle.cd_world.specs.declared.world.WorldError.{WorldError}
+use Rattle.cd_world.specs.Memory.{held_in, plan_in}
+use Rattle.cd_world.specs.Plan.{FailsWhere, after, counted, fails_next, write_cut}
+use Rattle.cd_world.specs.Store.{bytes_in, plan_of, with_file, member_name}
+use Rattle.cd_world.proofs.FilesSteps.{same-files, file-changed}
+use Rattle.cd_world.proofs.PlanSteps.{after-error, fails-error}
+use Rattle.cd_world.proofs.SideSteps.{member-is}
 use Rattle.cd_world.proofs.memory.MemoryWorld.write_file.Goals as goal
 
-pub returns-in_err-append-clause-file : goal.returns-in_err-append-clause-file
-returns-in_err-append-clause-file c = λ name has.
-    let p = err_from_is_err_and c.from_residual-in_err-append.result c.from_residual-in_err-append.ensures.1 in
-    let same = c.in_err-append.ensures.err in
-    rw (p.1) (files-eq _ _ (λ i other. bytes_in (same i other)) (λ d. refl) refl refl refl)
-
-pub returns-clause-file : goal.returns-clause-file
-returns-clause-file c = λ name has.
-    let entries = c.args.self.now.table.files.items in
-    let files = c.args.self.now.files.store.files.items in
+pub returns-in-Ok-clause-file : goal.returns-in-Ok-clause-file
+returns-in-Ok-clause-file c = λ name has.
+    let w = c.args.self.now in
+    let sides = w.sides.items in
+    let entries = w.table.files.items in
     let place = c.place_of-place.result in
-    let d = c.index.result.now in
-    let within : place < length entries = omega (arith, c.place_of-place.ensures.within, c.args.self.now.table.files.ok.0) in
-    let name_is = c.as_str-name.ensures ∙ ap (λ (e : OpenFile). e.name) c.index.ensures
-    ∙ ap (λ (o : Open). o.name) (found-is entries c.args.self.now.table.last place d (open_as Writing c.args.to name) c.args.self.now.table.rising within has (c.place_of-place.ensures.found d)) in
-    let front_is = c.front_of-front.ensures.front in
-    files-eq _ _ (contents-with _ _ name (Some (bytes_in (held files name) ++ take (length c.front_of-front.result.now) c.args.bytes.now))
-    (c.in_ok-append.ensures.ok ∙ (λ i. with_file (name_is i) (Some (bytes_in (held files (name_is i)) ++ front_is i)) (held files)))) (λ d. refl) refl refl refl
+    let entry : OpenFile = record { use_of = Writing; descriptor = c.args.to; name = name } in
+    let within : place < length entries = omega (arith, c.place_of-place.ensures.within, w.table.files.ok.0) in
+    let found = c.place_of-place.ensures.found entry in
+    let side = c.index.result.now in
+    let member = c.as_str-member.ensures ∙ ap (λ (s : Side). s.member) c.index.ensures ∙ member-is sides entries w.paired w.table.last w.table.rising place within c.args.to entry found side Writing name has in
+    let told = c.in-Ok.ensures.told ∙ ap (λ (n : ℕ). take n c.args.bytes.now) (sym c.len-count.ensures) in
+    file-changed _ _ _ _ name (Some (bytes_in (held_in w (member_name name)) ++ take c.len-count.result c.args.bytes.now))
+    (c.in-Ok.ensures.ok ∙ (λ i. with_file (member i) (Some (bytes_in (held_in w (member i)) ++ told i)) (held_in w)))
+
+pub returns-in-Ok-clause-held : goal.returns-in-Ok-clause-held
+returns-in-Ok-clause-held c = λ name has.
+    let w = c.args.self.now in
+    let sides = w.sides.items in
+    let entries = w.table.files.items in
+    let place = c.place_of-place.result in
+    let entry : OpenFile = record { use_of = Writing; descriptor = c.args.to; name = name } in
+    let within : place < length entries = omega (arith, c.place_of-place.ensures.within, w.table.files.ok.0) in
+    let found = c.place_of-place.ensures.found entry in
+    let side = c.index.result.now in
+    let member = c.as_str-member.ensures ∙ ap (λ (s : Side). s.member) c.index.ensures ∙ member-is sides entries w.paired w.table.last w.table.rising place within c.args.to entry found side Writing name has in
+    let told = c.in-Ok.ensures.told ∙ ap (λ (n : ℕ). take n c.args.bytes.now) (sym c.len-count.ensures) in
+    c.in-Ok.ensures.ok ∙ (λ i. with_file (member i) (Some (bytes_in (held_in w (member i)) ++ told i)) (held_in w))
+
+pub returns-in-Ok-clause-by_plan : goal.returns-in-Ok-clause-by_plan
+returns-in-Ok-clause-by_plan c = λ name has.
+    let w = c.args.self.now in
+    let sides = w.sides.items in
+    let entries = w.table.files.items in
+    let place = c.place_of-place.result in
+    let entry : OpenFile = record { use_of = Writing; descriptor = c.args.to; name = name } in
+    let within : place < length entries = omega (arith, c.place_of-place.ensures.within, w.table.files.ok.0) in
+    let found = c.place_of-place.ensures.found entry in
+    let side = c.index.result.now in
+    let member = c.as_str-member.ensures ∙ ap (λ (s : Side). s.member) c.index.ensures ∙ member-is sides entries w.paired w.table.last w.table.rising place within c.args.to entry found side Writing name has in
+    record {
+      fails = subst (λ (m : List ℕ). fails_next CallWriting (plan_in w m) ≡ false) member c.in-Ok.ensures.fails;
+      count = c.len-count.ensures ∙ c.in-Ok.ensures.count ∙ ap (λ (m : List ℕ). write_cut (plan_in w m) (length c.args.bytes.now)) member;
+    }
+
+pub returns-in-Ok-clause-plans : goal.returns-in-Ok-clause-plans
+returns-in-Ok-clause-plans c = λ name has.
+    let w = c.args.self.now in
+    let sides = w.sides.items in
+    let entries = w.table.files.items in
+    let place = c.place_of-place.result in
+    let entry : OpenFile = record { use_of = Writing; descriptor = c.args.to; name = name } in
+    let within : place < length entries = omega (arith, c.place_of-place.ensures.within, w.table.files.ok.0) in
+    let found = c.place_of-place.ensures.found entry in
+    let side = c.index.result.now in
+    let member = c.as_str-member.ensures ∙ ap (λ (s : Side). s.member) c.index.ensures ∙ member-is sides entries w.paired w.table.last w.table.rising place within c.args.to entry found side Writing name has in
+    c.in-Ok.ensures.plans ∙ ap (λ (m : List ℕ). counted CallWriting m (plan_in w)) member
+
+pub returns-in-Err-clause-file : goal.returns-in-Err-clause-file
+returns-in-Err-clause-file c = λ name has. c.refuse.ensures.files ∙ same-files _ _ _ _ c.in-Err.ensures.err
+
+pub returns-in-Err-clause-by_plan : goal.returns-in-Err-clause-by_plan
+returns-in-Err-clause-by_plan c = λ name has.
+    let w = c.args.self.now in
+    let sides = w.sides.items in
+    let entries = w.table.files.items in
+    let place = c.place_of-place.result in
+    let entry : OpenFile = record { use_of = Writing; descriptor = c.args.to; name = name } in
+    let within : place < length entries = omega (arith, c.place_of-place.ensures.within, w.table.files.ok.0) in
+    let found = c.place_of-place.ensures.found entry in
+    let side = c.index.result.now in
+    let member = c.as_str-member.ensures ∙ ap (λ (s : Side). s.member) c.index.ensures ∙ member-is sides entries w.paired w.table.last w.table.rising place within c.args.to entry found side Writing name has in
+    record {
+      fails = subst (λ (e : WorldError). FailsWhere {T = ℕ} (fails_next CallWriting (plan_in w (member_name name))) (Err e)) (sym c.refuse.ensures.same)
+          (fails-error (List ℕ) ℕ _ c.in-Err.error (subst (λ (m : List ℕ). FailsWhere {T = List ℕ} (fails_next CallWriting (plan_in w m)) (Err c.in-Err.error)) member c.in-Err.ensures.fails));
+      count = tt;
+    }
+
+pub returns-in-Err-clause-plans : goal.returns-in-Err-clause-plans
+returns-in-Err-clause-plans c = λ name has.
+    let w = c.args.self.now in
+    let sides = w.sides.items in
+    let entries = w.table.files.items in
+    let place = c.place_of-place.result in
+    let entry : OpenFile = record { use_of = Writing; descriptor = c.args.to; name = name } in
+    let within : place < length entries = omega (arith, c.place_of-place.ensures.within, w.table.files.ok.0) in
+    let found = c.place_of-place.ensures.found entry in
+    let side = c.index.result.now in
+    let member = c.as_str-member.ensures ∙ ap (λ (s : Side). s.member) c.index.ensures ∙ member-is sides entries w.paired w.table.last w.table.rising place within c.args.to entry found side Writing name has in
+    ap (λ (s : Store). plan_of s.members.items) c.refuse.ensures.store ∙ c.in-Err.ensures.plans
+    ∙ after-error (List ℕ) ℕ c.in-Err.error (counted CallWriting c.as_str-member.result.now) (plan_in w)
+    ∙ (λ i. after {T = ℕ} (Err (sym c.refuse.ensures.same i)) (counted CallWriting (member i)) (plan_in w))

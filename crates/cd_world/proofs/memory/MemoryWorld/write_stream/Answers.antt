@@ -1,36 +1,21 @@
-use Rattle.std.proofs.Common.{◌++◌, ℕ, List, drop, refl, ◌∙◌, ap}
-use Rattle.std.specs.Prelude.{codes}
-use Rattle.std.proofs.lemmas.Result.{err_from_is_err_and}
-use Rattle.cd_world.specs.Store.{held, bytes_in}
-use Rattle.cd_world.proofs.FilesSteps.{files-eq, output-input, output-output, output-errors, errors-input, errors-output, errors-errors}
+use Rattle.std.proofs.Common.{◌≡◌, ℕ, List, take, sym, ◌∙◌, ap}
+use Rattle.cd_world.specs.Files.{with_output, with_errors}
+use Rattle.cd_world.specs.Memory.{files_in, held_in}
+use Rattle.cd_world.proofs.FilesSteps.{same-files, output-changed, errors-changed}
 use Rattle.cd_world.proofs.memory.MemoryWorld.write_stream.Goals as goal
 
-pub returns-in_err-append-clause-output : goal.returns-in_err-append-clause-output
-returns-in_err-append-clause-output c = λ named.
-    let p = err_from_is_err_and c.from_residual-in_err-append.result c.from_residual-in_err-append.ensures.1 in
-    let same = c.in_err-append.ensures.err in
-    rw (p.1) (files-eq _ _ refl (λ d. refl) (λ i. drop c.args.self.now.input_given (bytes_in (same i (codes "<stdin>")))) (λ i. bytes_in (same i (codes "<stdout>"))) (λ i. bytes_in (same i (codes "<stderr>"))))
+pub returns-in-Ok-clause-output : goal.returns-in-Ok-clause-output
+returns-in-Ok-clause-output c = λ named.
+    output-changed (held_in c.args.self.now) _ _ _ c.args.name.now c.in-Ok.told c.in-Ok.ensures.ok named
+    ∙ ap (λ (b : List ℕ). with_output b (files_in c.args.self.now)) (c.in-Ok.ensures.told ∙ ap (λ (n : ℕ). take n c.args.bytes.now) (sym c.len-count.ensures))
 
-pub returns-in_err-append-clause-errors : goal.returns-in_err-append-clause-errors
-returns-in_err-append-clause-errors c = λ named.
-    let p = err_from_is_err_and c.from_residual-in_err-append.result c.from_residual-in_err-append.ensures.1 in
-    let same = c.in_err-append.ensures.err in
-    rw (p.1) (files-eq _ _ refl (λ d. refl) (λ i. drop c.args.self.now.input_given (bytes_in (same i (codes "<stdin>")))) (λ i. bytes_in (same i (codes "<stdout>"))) (λ i. bytes_in (same i (codes "<stderr>"))))
+pub returns-in-Ok-clause-errors : goal.returns-in-Ok-clause-errors
+returns-in-Ok-clause-errors c = λ named.
+    errors-changed (held_in c.args.self.now) _ _ _ c.args.name.now c.in-Ok.told c.in-Ok.ensures.ok named
+    ∙ ap (λ (b : List ℕ). with_errors b (files_in c.args.self.now)) (c.in-Ok.ensures.told ∙ ap (λ (n : ℕ). take n c.args.bytes.now) (sym c.len-count.ensures))
 
-pub returns-clause-output : goal.returns-clause-output
-returns-clause-output c = λ named.
-    let h = held c.args.self.now.streams.store.files.items in
-    let h' = held c.append.new.self.files.items in
-    let front = c.front_of-front.result.now in
-    let more = c.in_ok-append.ensures.ok in
-    files-eq _ _ refl (λ d. refl) (ap (drop c.args.self.now.input_given) (output-input h h' c.args.name.now front more named))
-    (output-output h h' c.args.name.now front more named ∙ ap (λ (b : List ℕ). bytes_in (h (codes "<stdout>")) ++ b) c.front_of-front.ensures.front) (output-errors h h' c.args.name.now front more named)
+pub returns-in-Err-clause-output : goal.returns-in-Err-clause-output
+returns-in-Err-clause-output c = λ named. c.refuse.ensures.files ∙ same-files _ _ _ _ c.in-Err.ensures.err
 
-pub returns-clause-errors : goal.returns-clause-errors
-returns-clause-errors c = λ named.
-    let h = held c.args.self.now.streams.store.files.items in
-    let h' = held c.append.new.self.files.items in
-    let front = c.front_of-front.result.now in
-    let more = c.in_ok-append.ensures.ok in
-    files-eq _ _ refl (λ d. refl) (ap (drop c.args.self.now.input_given) (errors-input h h' c.args.name.now front more named))
-    (errors-output h h' c.args.name.now front more named) (errors-errors h h' c.args.name.now front more named ∙ ap (λ (b : List ℕ). bytes_in (h (codes "<stderr>")) ++ b) c.front_of-front.ensures.front)
+pub returns-in-Err-clause-errors : goal.returns-in-Err-clause-errors
+returns-in-Err-clause-errors c = λ named. c.refuse.ensures.files ∙ same-files _ _ _ _ c.in-Err.ensures.err
