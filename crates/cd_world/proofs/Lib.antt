@@ -1,3 +1,4 @@
+mod BeginSteps
 mod CloseSteps
 mod FilesSteps
 mod GivenSteps

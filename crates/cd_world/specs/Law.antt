@@ -1,11 +1,12 @@
 -- What a call on a world in memory answers, by the plan of its member.
-use Rattle.std.specs.Prelude.{◌≡◌, ℕ, min, Bool, false, List, [], ◌∷◌, ◌++◌, length, take, Option, Some, None, Result, Ok, Err, IfOk}
+use Rattle.std.specs.Prelude.{◌≡◌, ℕ, min, Bool, true, false, List, [], ◌∷◌, ◌++◌, length, take, Option, Some, None, Result, Ok, Err, IfOk}
 use Rattle.std.specs.Option.{is_none}
 use Rattle.cd_world.specs.declared.event.Event.{Event}
 use Rattle.cd_world.specs.declared.event.Use.{Use}
 use Rattle.cd_world.specs.declared.event.Use.TheVariants.{Reading, Writing, Marking}
 use Rattle.cd_world.specs.declared.plan.Call.TheVariants.{Reading as CallReading, Writing as CallWriting}
 use Rattle.cd_world.specs.declared.plan.Plan.{Plan}
+use Rattle.cd_world.specs.declared.world.CloseFailed.{CloseFailed}
 use Rattle.cd_world.specs.declared.world.WorldError.{WorldError}
 use Rattle.cd_world.specs.declared.world.WorldError.TheVariants.{Failed, NoMemory}
 use Rattle.cd_world.specs.Plan.{FailsWhere, fails_next, read_cut, write_cut}
@@ -42,3 +43,22 @@ is_missing Marking file = false
 abbrev pub where_failed : WorldError → Event → List Event
 where_failed Failed event = event ∷ []
 where_failed NoMemory event = []
+
+-- the members after an open: a file that is opened for writing or as a mark becomes empty
+abbrev pub emptied_member : Use → List ℕ → (List ℕ → Option (List ℕ)) → List ℕ → Option (List ℕ)
+emptied_member Reading name h = h
+emptied_member Writing name h = with_file name (Some []) h
+emptied_member Marking name h = with_file name (Some []) h
+
+abbrev pub held_after_open : {T : Type 0} → Use → List ℕ → Result T WorldError → (List ℕ → Option (List ℕ)) → List ℕ → Option (List ℕ)
+held_after_open use_of name (Ok d) h = emptied_member use_of name h
+held_after_open use_of name (Err e) h = h
+
+-- A close fails exactly where it is to fail. A mark's file is taken away where it does not fail.
+abbrev pub ClosesWhere : {T : Type 0} → Bool → Result T CloseFailed → Type 0
+ClosesWhere fails (Ok x) = fails ≡ false
+ClosesWhere fails (Err e) = fails ≡ true
+
+abbrev pub held_after_close : {T : Type 0} → Use → List ℕ → Result T CloseFailed → (List ℕ → Option (List ℕ)) → List ℕ → Option (List ℕ)
+held_after_close use_of name (Ok x) h = without_marked use_of name h
+held_after_close use_of name (Err e) h = h

@@ -1,15 +1,16 @@
 -- What an outside in memory tells, and what its calls go by.
-use Rattle.std.specs.Prelude.{ℕ, ◌-◌, ◌^◌, ◌==◌, ◌||◌, Bool, List, drop, codes, map, Option}
+use Rattle.std.specs.Prelude.{◌≡◌, ℕ, ◌-◌, ◌^◌, ◌==◌, ◌||◌, Bool, List, drop, codes, map, Option, Result}
 use Rattle.cd_world.specs.declared.event.Event.{Event}
 use Rattle.cd_world.specs.declared.event.Use.{Use}
 use Rattle.cd_world.specs.declared.memory.MemoryWorld.{MemoryWorld}
 use Rattle.cd_world.specs.declared.memory.Side.{Side}
-use Rattle.cd_world.specs.declared.plan.Call.TheVariants.{Opening}
+use Rattle.cd_world.specs.declared.plan.Call.TheVariants.{Opening, Writing}
 use Rattle.cd_world.specs.declared.plan.Plan.{Plan}
+use Rattle.cd_world.specs.declared.world.WorldError.{WorldError}
 use Rattle.cd_world.specs.Files.{Files}
-use Rattle.cd_world.specs.Law.{is_missing}
+use Rattle.cd_world.specs.Law.{WritesBy, HoldsMore, is_missing}
 use Rattle.cd_world.specs.Live.{Open}
-use Rattle.cd_world.specs.Plan.{fails_next}
+use Rattle.cd_world.specs.Plan.{after, counted, fails_next}
 use Rattle.cd_world.specs.Store.{held, plan_of, bytes_in, member_name}
 use Rattle.cd_world.specs.Table.{given_in, live_of}
 
@@ -52,3 +53,9 @@ files_in w = files_by (held_in w) (given_in w.table.files.items (counts_of w.sid
 -- the next open of this name fails: it is to fail, no descriptor is left to give, or a file to be read is not there
 abbrev pub open_fails : Use → List ℕ → MemoryWorld → Bool
 open_fails use_of name w = fails_next Opening (plan_in w (member_name name)) || w.table.last == 2 ^ 64 - 1 || is_missing use_of (held_in w (member_name name))
+
+-- A write on a member fails exactly where its plan says so, and else adds all bytes that are not cut off to what the member holds.
+pub record WritesMember (name bytes : List ℕ) (result : Result ℕ WorldError) (before now : MemoryWorld) : Type 0 where
+  pub by_plan : WritesBy (plan_in before name) bytes result
+  pub held : HoldsMore name bytes result (held_in before) (held_in now)
+  pub plans : plan_in now ≡ after result (counted Writing name) (plan_in before)

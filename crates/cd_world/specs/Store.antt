@@ -1,5 +1,5 @@
 -- The members of a world in memory as functions from names.
-use Rattle.std.specs.Prelude.{◌≡◌, ◌≢◌, ℕ, ◌<◌, List, length, slice_index_or, [], ◌∷◌, Option, Some, None, map, if◌then◌else◌, ◌==◌}
+use Rattle.std.specs.Prelude.{◌≡◌, ◌≢◌, ℕ, ◌<◌, List, length, slice_index_or, [], ◌∷◌, Option, Some, None, map, option_map, if◌then◌else◌, ◌==◌}
 use Rattle.std.specs.Str.{bytes_eq}
 use Rattle.cd_world.specs.declared.plan.Plan.{Plan}
 use Rattle.cd_world.specs.declared.store.Member.{Member}
@@ -48,6 +48,18 @@ fresh_plan file = record { read_cuts = file.read_cuts; write_cuts = file.write_c
 
 abbrev pub member_of : MemoryFile → Member
 member_of file = record { name = file.name; bytes = Some file.bytes; plan = Some (fresh_plan file) }
+
+-- the first file with this name that the world begins with
+abbrev pub file_named : List MemoryFile → List ℕ → Option MemoryFile
+file_named [] name = None
+file_named (file ∷ files) name = if bytes_eq file.name name then Some file else file_named files name
+
+-- what the world begins with under a name: its bytes, and its plan
+abbrev pub bytes_given : List MemoryFile → List ℕ → Option (List ℕ)
+bytes_given files name = option_map (λ file. file.bytes) (file_named files name)
+
+abbrev pub plan_given : List MemoryFile → List ℕ → Option Plan
+plan_given files name = option_map fresh_plan (file_named files name)
 
 -- The name of the member that a file is, by the name that it is opened by: one more `<` in front where that begins with `<`.
 -- So no file is a standard stream.

@@ -1,10 +1,10 @@
 // An outside in memory.
 ghost use Rattle.std.specs.Prelude.{◌≡◌, ◌<◌, ◌≤◌, ◌++◌, ◌+◌, ◌∷◌, [], ℕ, Some, None, IfOk, OnOk, OnErr, MatchOption, false, codes, length, take, drop, min, vec_len, vec_capacity, map};
-ghost use Rattle.cd_world.specs.Causes.{HasCause, Rose};
-ghost use Rattle.cd_world.specs.Events.{gave, wrote, opened, opening};
-ghost use Rattle.cd_world.specs.Plan.{after, counted};
+ghost use Rattle.cd_world.specs.Causes.{HasCause, HasCloseCause, Rose};
+ghost use Rattle.cd_world.specs.Events.{gave, wrote, opened, opening, closed};
 ghost use Rattle.cd_world.specs.Law.{is_missing};
-ghost use Rattle.cd_world.specs.Store.{held, member_name};
+ghost use Rattle.cd_world.specs.Plan.{FailsWhere, after, counted, fails_next};
+ghost use Rattle.cd_world.specs.Store.{bytes_given, plan_given, held, member_name};
 ghost use Rattle.cd_world.specs.Table.{live_of};
 
 use crate::event::{Descriptor, Event, EventList, Use};
@@ -49,9 +49,9 @@ impl MemoryWorld {
     ghost use Rattle.cd_world.specs.declared.event.Use.{Use};
     ghost use Rattle.cd_world.specs.declared.event.Use.TheVariants.{Reading, Writing};
     ghost use Rattle.cd_world.specs.Files.{ReadsInput, ReadsFile, WritesFile, WritesOutput, WritesErrors, after_open, emptied, left_at, with_given, without_mark};
-    ghost use Rattle.cd_world.specs.Law.{ReadsBy, WritesBy, HoldsMore, where_failed, without_marked};
+    ghost use Rattle.cd_world.specs.Law.{ReadsBy, emptied_member, held_after_open, where_failed, without_marked};
     ghost use Rattle.cd_world.specs.Live.{IsLive, Open, Opens, Removes, open_as};
-    ghost use Rattle.cd_world.specs.Memory.{files_in, held_in, plan_in, live_in, last_in, log_in, faults_in, open_fails};
+    ghost use Rattle.cd_world.specs.Memory.{WritesMember, files_by, files_in, held_in, plan_in, live_in, last_in, log_in, faults_in, open_fails};
     ghost use Rattle.cd_world.specs.Table.{open_of};
 
     /// A world with these files and streams, in which nothing was called yet.
@@ -60,6 +60,11 @@ impl MemoryWorld {
         ensures faults { IfOk result (λ world. faults_in world ≡ 0) }
         ensures live { IfOk result (λ world. live_in world ≡ []) }
         ensures last { IfOk result (λ world. last_in world ≡ 2) }
+
+        // Of two members with the same name the first counts, and streams that are not given are empty.
+        ensures files { IfOk result (λ world. files_in world ≡ files_by (bytes_given files) (λ d. 0) 0) }
+        ensures there { IfOk result (λ world. (name : List ℕ) → held_in world (member_name name) ≡ bytes_given files (member_name name)) }
+        ensures plans { IfOk result (λ world. (name : List ℕ) → plan_in world name ≡ plan_given files name) }
     {
         let mut store = Store::new(alloc, files)?;
         store.make_stream(alloc, STDIN)?;
@@ -105,6 +110,7 @@ impl MemoryWorld {
         ensures files { self.new.table.files.items ≡ self.old.table.files.items }
         ensures last { self.new.table.last ≡ self.old.table.last }
         ensures sides { self.new.sides.items ≡ self.old.sides.items }
+        ensures store { self.new.store ≡ self.old.store }
         ensures room { OnOk result (vec_len self.new.table.files + 2 ≤ self.new.log.1) }
         ensures table { OnOk result (vec_len self.new.table.files < vec_capacity self.new.table.files) }
         ensures beside { OnOk result (vec_len self.new.sides < vec_capacity self.new.sides) }
@@ -149,7 +155,8 @@ impl MemoryWorld {
         ensures rest { self.new ≡ record self.old { store = self.new.store } }
         ensures ok { OnOk result (files_in self.new ≡ emptied use_of name.now (files_in self.old)) }
         ensures err { OnErr result (files_in self.new ≡ files_in self.old) }
-        ensures held { OnErr result (held_in self.new ≡ held_in self.old) }
+        ensures held_ok { OnOk result (held_in self.new ≡ emptied_member use_of member.now (held_in self.old)) }
+        ensures held_err { OnErr result (held_in self.new ≡ held_in self.old) }
         ensures plans { plan_in self.new ≡ plan_in self.old }
     {
         match use_of {
@@ -183,6 +190,9 @@ impl MemoryWorld {
         ensures live { Opens use_of name.now (live_in self.old) (live_in self.new) self.old.table.last self.new.table.last result }
         ensures log { self.new.log.0 ≡ self.old.log.0 ++ opened use_of name.now result }
         ensures files { files_in self.new ≡ after_open use_of name.now result (files_in self.old) }
+        ensures fails { FailsWhere (open_fails use_of name.now self.old) result }
+        ensures held { held_in self.new ≡ held_after_open use_of (member_name name.now) result (held_in self.old) }
+        ensures plans { plan_in self.new ≡ after result (counted Call.Opening (member_name name.now)) (plan_in self.old) }
     {
         let entry = Literal::new(self.alloc, name)?;
         let told = Literal::new(self.alloc, name)?;
@@ -293,9 +303,7 @@ impl MemoryWorld {
         ensures log { self.new.log.0 ≡ self.old.log.0 ++ wrote to bytes.now result }
         ensures output { name.now ≡ codes "<stdout>" → WritesOutput bytes.now result (files_in self.old) (files_in self.new) }
         ensures errors { name.now ≡ codes "<stderr>" → WritesErrors bytes.now result (files_in self.old) (files_in self.new) }
-        ensures held { HoldsMore name.now bytes.now result (held_in self.old) (held_in self.new) }
-        ensures by_plan { WritesBy (plan_in self.old name.now) bytes.now result }
-        ensures plans { plan_in self.new ≡ after result (counted Call.Writing name.now) (plan_in self.old) }
+        ensures by_plan { WritesMember name.now bytes.now result self.old self.new }
     {
         match self.store.put(self.alloc, name, bytes) {
             Ok(told) => {
@@ -319,12 +327,8 @@ impl MemoryWorld {
         ensures log { self.new.log.0 ≡ self.old.log.0 ++ wrote to bytes.now result }
         ensures file { (name : List ℕ) → Contains (live_in self.old) (open_as Writing to name)
             → WritesFile name bytes.now result (files_in self.old) (files_in self.new) }
-        ensures held { (name : List ℕ) → Contains (live_in self.old) (open_as Writing to name)
-            → HoldsMore (member_name name) bytes.now result (held_in self.old) (held_in self.new) }
         ensures by_plan { (name : List ℕ) → Contains (live_in self.old) (open_as Writing to name)
-            → WritesBy (plan_in self.old (member_name name)) bytes.now result }
-        ensures plans { (name : List ℕ) → Contains (live_in self.old) (open_as Writing to name)
-            → plan_in self.new ≡ after result (counted Call.Writing (member_name name)) (plan_in self.old) }
+            → WritesMember (member_name name) bytes.now result self.old self.new }
     {
         let place = self.table.place_of(to);
         let member = self.sides[place].member.as_str();
@@ -404,9 +408,13 @@ fn opened_event(use_of: Use, name: Literal, descriptor: Descriptor) -> Event
 }
 
 impl World for MemoryWorld {
-    ghost use Rattle.std.specs.Prelude.{true};
+    ghost use Rattle.std.specs.Prelude.{List, Contains, ◌⊎◌, true};
+    ghost use Rattle.cd_world.specs.declared.event.Use.{Use};
+    ghost use Rattle.cd_world.specs.Files.{ReadsInput, ReadsFile, WritesFile, WritesOutput, WritesErrors, ClosesFile, after_open, left_at};
     ghost use Rattle.cd_world.specs.Known.{all-known};
-    ghost use Rattle.cd_world.specs.Memory.{files_in, live_in, last_in, log_in, faults_in};
+    ghost use Rattle.cd_world.specs.Law.{ReadsBy, ClosesWhere, held_after_open, held_after_close};
+    ghost use Rattle.cd_world.specs.Live.{IsLive, Open, Opens, Removes, open_as};
+    ghost use Rattle.cd_world.specs.Memory.{WritesMember, files_in, held_in, plan_in, live_in, last_in, log_in, faults_in, open_fails};
 
     ghost faults = { faults_in };
 
@@ -424,19 +432,69 @@ impl World for MemoryWorld {
 
     ghost known = { λ w. all-known 2 (live_in w) (last_in w) w.table.rising };
 
-    fn open_read(&mut self, name: &str) -> Result<Descriptor, WorldError> {
+    fn open_read(&mut self, name: &str) -> Result<Descriptor, WorldError>
+        ensures cause { HasCause (faults_in self.old) (faults_in self.new) result }
+        ensures live { Opens Use.Reading name.now (live_in self.old) (live_in self.new) (last_in self.old) (last_in self.new) result }
+        ensures log { log_in self.new ≡ log_in self.old ++ opened Use.Reading name.now result }
+        ensures files { files_in self.new ≡ after_open Use.Reading name.now result (files_in self.old) }
+
+        // It fails exactly where this is so.
+        ensures fails { FailsWhere (open_fails Use.Reading name.now self.old) result }
+        ensures held { held_in self.new ≡ held_after_open Use.Reading (member_name name.now) result (held_in self.old) }
+        ensures plans { plan_in self.new ≡ after result (counted Call.Opening (member_name name.now)) (plan_in self.old) }
+    {
         self.open_for(Use::Reading, name)
     }
 
-    fn create(&mut self, name: &str) -> Result<Descriptor, WorldError> {
+    fn create(&mut self, name: &str) -> Result<Descriptor, WorldError>
+        ensures cause { HasCause (faults_in self.old) (faults_in self.new) result }
+        ensures live { Opens Use.Writing name.now (live_in self.old) (live_in self.new) (last_in self.old) (last_in self.new) result }
+        ensures log { log_in self.new ≡ log_in self.old ++ opened Use.Writing name.now result }
+        ensures files { files_in self.new ≡ after_open Use.Writing name.now result (files_in self.old) }
+
+        // It fails exactly where this is so.
+        ensures fails { FailsWhere (open_fails Use.Writing name.now self.old) result }
+        ensures held { held_in self.new ≡ held_after_open Use.Writing (member_name name.now) result (held_in self.old) }
+        ensures plans { plan_in self.new ≡ after result (counted Call.Opening (member_name name.now)) (plan_in self.old) }
+    {
         self.open_for(Use::Writing, name)
     }
 
-    fn mark(&mut self, name: &str) -> Result<Descriptor, WorldError> {
+    fn mark(&mut self, name: &str) -> Result<Descriptor, WorldError>
+        ensures cause { HasCause (faults_in self.old) (faults_in self.new) result }
+        ensures live { Opens Use.Marking name.now (live_in self.old) (live_in self.new) (last_in self.old) (last_in self.new) result }
+        ensures log { log_in self.new ≡ log_in self.old ++ opened Use.Marking name.now result }
+        ensures files { files_in self.new ≡ after_open Use.Marking name.now result (files_in self.old) }
+
+        // It fails exactly where this is so.
+        ensures fails { FailsWhere (open_fails Use.Marking name.now self.old) result }
+        ensures held { held_in self.new ≡ held_after_open Use.Marking (member_name name.now) result (held_in self.old) }
+        ensures plans { plan_in self.new ≡ after result (counted Call.Opening (member_name name.now)) (plan_in self.old) }
+    {
         self.open_for(Use::Marking, name)
     }
 
-    fn read(&mut self, from: Descriptor, into: &mut [u8]) -> Result<usize, WorldError> {
+    fn read(&mut self, from: Descriptor, into: &mut [u8]) -> Result<usize, WorldError>
+        requires readable { (from.0 ≡ 0) ⊎ IsLive Use.Reading from (live_in self.old) }
+        requires room { 0 < length into.old }
+        ensures within { IfOk result (λ count. count ≤ length into.new) }
+        ensures cause { HasCause (faults_in self.old) (faults_in self.new) result }
+        ensures live { live_in self.new ≡ live_in self.old }
+        ensures last { last_in self.new ≡ last_in self.old }
+        ensures log { log_in self.new ≡ log_in self.old ++ gave from into.new result }
+        ensures file { (name : List ℕ) → Contains (live_in self.old) (open_as Use.Reading from name)
+            → ReadsFile from.0 name into.new result (files_in self.old) (files_in self.new) }
+        ensures input { from.0 ≡ 0 → ReadsInput into.new result (files_in self.old) (files_in self.new) }
+
+        // It fails exactly where the plan says so, and else gives as many bytes as are left, fit, and are not cut off.
+        ensures held { held_in self.new ≡ held_in self.old }
+        ensures file_by_plan { (name : List ℕ) → Contains (live_in self.old) (open_as Use.Reading from name)
+            → ReadsBy (plan_in self.old (member_name name)) (left_at from.0 name (files_in self.old)) into.new result }
+        ensures file_plans { (name : List ℕ) → Contains (live_in self.old) (open_as Use.Reading from name)
+            → plan_in self.new ≡ after result (counted Call.Reading (member_name name)) (plan_in self.old) }
+        ensures input_by_plan { from.0 ≡ 0 → ReadsBy (plan_in self.old (codes "<stdin>")) (files_in self.old).input into.new result }
+        ensures input_plans { from.0 ≡ 0 → plan_in self.new ≡ after result (counted Call.Reading (codes "<stdin>")) (plan_in self.old) }
+    {
         self.reserve()?;
         if from == Descriptor::STDIN {
             return self.read_input(from, into);
@@ -444,7 +502,25 @@ impl World for MemoryWorld {
         self.read_file(from, into)
     }
 
-    fn write(&mut self, to: Descriptor, bytes: &[u8]) -> Result<usize, WorldError> {
+    fn write(&mut self, to: Descriptor, bytes: &[u8]) -> Result<usize, WorldError>
+        requires writable { (to.0 ≡ 1) ⊎ (to.0 ≡ 2) ⊎ IsLive Use.Writing to (live_in self.old) }
+        requires some { 0 < length bytes.now }
+        ensures within { IfOk result (λ count. (0 < count) × (count ≤ length bytes.now)) }
+        ensures cause { HasCause (faults_in self.old) (faults_in self.new) result }
+        ensures live { live_in self.new ≡ live_in self.old }
+        ensures last { last_in self.new ≡ last_in self.old }
+        ensures log { log_in self.new ≡ log_in self.old ++ wrote to bytes.now result }
+        ensures file { (name : List ℕ) → Contains (live_in self.old) (open_as Use.Writing to name)
+            → WritesFile name bytes.now result (files_in self.old) (files_in self.new) }
+        ensures output { to.0 ≡ 1 → WritesOutput bytes.now result (files_in self.old) (files_in self.new) }
+        ensures errors { to.0 ≡ 2 → WritesErrors bytes.now result (files_in self.old) (files_in self.new) }
+
+        // It fails exactly where the plan says so, and else takes all bytes that are not cut off.
+        ensures file_by_plan { (name : List ℕ) → Contains (live_in self.old) (open_as Use.Writing to name)
+            → WritesMember (member_name name) bytes.now result self.old self.new }
+        ensures output_by_plan { to.0 ≡ 1 → WritesMember (codes "<stdout>") bytes.now result self.old self.new }
+        ensures errors_by_plan { to.0 ≡ 2 → WritesMember (codes "<stderr>") bytes.now result self.old self.new }
+    {
         self.reserve()?;
         if to == Descriptor::STDOUT {
             return self.write_stream(STDOUT, to, bytes);
@@ -455,7 +531,23 @@ impl World for MemoryWorld {
         self.write_file(to, bytes)
     }
 
-    fn close(&mut self, which: Descriptor) -> Result<(), CloseFailed> {
+    fn close(&mut self, which: Descriptor) -> Result<(), CloseFailed>
+        requires { (use_of : Use) × IsLive use_of which (live_in self.old) }
+        ensures cause { HasCloseCause (faults_in self.old) (faults_in self.new) result }
+        ensures live { Removes which (live_in self.old) (live_in self.new) }
+        ensures last { last_in self.new ≡ last_in self.old }
+        ensures log { log_in self.new ≡ log_in self.old ++ closed which result }
+        ensures files { (o : Open) → Contains (live_in self.old) o → o.descriptor ≡ which
+            → ClosesFile o result (files_in self.old) (files_in self.new) }
+
+        // It fails exactly where the plan says so. A mark whose close fails leaves its file.
+        ensures fails { (o : Open) → Contains (live_in self.old) o → o.descriptor ≡ which
+            → ClosesWhere (fails_next Call.Closing (plan_in self.old (member_name o.name))) result }
+        ensures held { (o : Open) → Contains (live_in self.old) o → o.descriptor ≡ which
+            → held_in self.new ≡ held_after_close o.use_of (member_name o.name) result (held_in self.old) }
+        ensures plans { (o : Open) → Contains (live_in self.old) o → o.descriptor ≡ which
+            → plan_in self.new ≡ counted Call.Closing (member_name o.name) (plan_in self.old) }
+    {
         let (open, member) = self.dismiss(which);
         let is_failing = self.store.is_failing(Call::Closing, member.as_str());
         self.store.count(Call::Closing, member.as_str());
