@@ -69,7 +69,10 @@ impl Plan {
         ensures { result ≡ is_failing call self.now }
     {
         let number = self.calls(call).saturating_add(1);
-        self.fails.as_slice().iter().any(|fail| fail.is(call, number))
+        self.fails
+            .as_slice()
+            .iter()
+            .any(|fail| fail.is(call, number))
     }
 
     /// Counts a call.

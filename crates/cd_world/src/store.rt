@@ -261,12 +261,7 @@ impl Store {
     }
 
     /// Answers a write on a name, and counts it. It gives the bytes that were written, the front that is not cut off.
-    pub fn put(
-        &mut self,
-        alloc: Global,
-        name: &str,
-        bytes: &[u8],
-    ) -> Result<ByteList, WorldError>
+    pub fn put(&mut self, alloc: Global, name: &str, bytes: &[u8]) -> Result<ByteList, WorldError>
         requires { 0 < length bytes.now }
         ensures fails { FailsWhere (fails_next Writing (plan_of self.old.members.items name.now)) result }
         ensures told { IfOk result (λ told. told ≡ take (length told) bytes.now) }

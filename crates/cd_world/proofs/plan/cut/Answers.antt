@@ -1,4 +1,4 @@
-use Rattle.std.proofs.Common.{◌≡◌, ℕ, min, max, sym, ◌∙◌, ap}
+use Rattle.std.proofs.Common.{min, sym, ◌∙◌, ap}
 use Rattle.cd_world.proofs.PlanSteps.{cut-here, cut-behind}
 use Rattle.cd_world.proofs.plan.cut.Goals as goal
 

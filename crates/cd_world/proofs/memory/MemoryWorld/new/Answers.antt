@@ -1,4 +1,4 @@
-use Rattle.std.proofs.Common.{◌≡◌, List, ℕ, Option, ◌∙◌, ap}
+use Rattle.std.proofs.Common.{List, ℕ, Option, ◌∙◌, ap}
 use Rattle.cd_world.specs.declared.store.Member.{Member}
 use Rattle.cd_world.specs.Memory.{files_by, counts_of}
 use Rattle.cd_world.specs.Store.{held, plan_of}

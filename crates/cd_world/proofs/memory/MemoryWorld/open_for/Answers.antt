@@ -1,4 +1,4 @@
-use Rattle.std.proofs.Common.{◌≡◌, ◌∙◌, ap}
+use Rattle.std.proofs.Common.{◌∙◌, ap}
 use Rattle.cd_world.specs.Files.{with_given, emptied}
 use Rattle.cd_world.proofs.FilesSteps.{same-files}
 use Rattle.cd_world.proofs.memory.MemoryWorld.open_for.Goals as goal

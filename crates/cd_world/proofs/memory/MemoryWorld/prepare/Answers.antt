@@ -1,4 +1,4 @@
-use Rattle.std.proofs.Common.{◌≡◌, [], List, ℕ, Some, ◌∙◌, ap}
+use Rattle.std.proofs.Common.{[], List, ℕ, Some, ◌∙◌, ap}
 use Rattle.std.proofs.lemmas.Result.{on_ok_weaker, on_err_weaker}
 use Rattle.cd_world.specs.Store.{held, with_file}
 use Rattle.cd_world.proofs.FilesSteps.{file-changed, same-files, emptied-is}

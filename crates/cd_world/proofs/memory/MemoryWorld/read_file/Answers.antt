@@ -1,4 +1,4 @@
-use Rattle.std.proofs.Common.{◌≡◌, ◌<◌, ◌+◌, ◌==◌, ℕ, List, Ok, Err, false, length, min, drop, refl, sym, ◌∙◌, ap, subst, arith, if◌then◌else◌}
+use Rattle.std.proofs.Common.{◌≡◌, ◌<◌, ◌+◌, ◌==◌, ℕ, List, Err, false, length, min, drop, refl, sym, ◌∙◌, ap, subst, arith, if◌then◌else◌}
 use Rattle.cd_world.specs.declared.event.Use.TheVariants.{Reading}
 use Rattle.cd_world.specs.declared.memory.Side.{Side}
 use Rattle.cd_world.specs.declared.plan.Call.TheVariants.{Reading as CallReading}
@@ -37,7 +37,7 @@ returns-in-Ok-clause-files c = λ name has.
     let count = c.len-count.result in (
       subst (λ (n : ℕ). Gives (left_at c.args.from.0 name (files_in w)) n c.give.new.into) (sym c.len-count.ensures) (subst (λ (l : List ℕ). Gives l (length c.in-Ok.told) c.give.new.into) left c.in-Ok.ensures.gives),
       same-files _ _ _ _ c.give.ensures.held
-      ∙ files-eq _ _ (λ name. refl) (λ other.
+          ∙ files-eq _ _ (λ name. refl) (λ other.
           given-now sides entries w.paired w.table.last w.table.rising place within c.args.from entry found (record c.index_mut.result.now { given = c.index.result.now.given + count }) other
           ∙ ap (λ (n : ℕ). if c.args.from.0 == other then n + count else given_in entries (counts_of sides) other) (sym given)) refl refl refl,
     )

@@ -1,4 +1,4 @@
-use Rattle.std.proofs.Common.{◌≡◌, List, ℕ, None, ◌∙◌, ap}
+use Rattle.std.proofs.Common.{List, ℕ, None, ◌∙◌, ap}
 use Rattle.cd_world.specs.Store.{held, with_file}
 use Rattle.cd_world.proofs.FilesSteps.{file-changed, unmarked-is}
 use Rattle.cd_world.proofs.memory.MemoryWorld.remove_mark.Goals as goal

@@ -1,4 +1,4 @@
-use Rattle.std.proofs.Common.{◌≡◌, ◌<◌, ◌++◌, ℕ, List, Ok, Err, Some, false, length, take, sym, ◌∙◌, ap, subst, arith}
+use Rattle.std.proofs.Common.{◌≡◌, ◌<◌, ◌++◌, ℕ, List, Err, Some, false, length, take, sym, ◌∙◌, ap, subst, arith}
 use Rattle.cd_world.specs.declared.event.Use.TheVariants.{Writing}
 use Rattle.cd_world.specs.declared.memory.Side.{Side}
 use Rattle.cd_world.specs.declared.plan.Call.TheVariants.{Writing as CallWriting}

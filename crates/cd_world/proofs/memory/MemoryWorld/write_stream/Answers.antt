@@ -1,4 +1,4 @@
-use Rattle.std.proofs.Common.{◌≡◌, ℕ, List, take, sym, ◌∙◌, ap}
+use Rattle.std.proofs.Common.{ℕ, List, take, sym, ◌∙◌, ap}
 use Rattle.cd_world.specs.Files.{with_output, with_errors}
 use Rattle.cd_world.specs.Memory.{files_in, held_in}
 use Rattle.cd_world.proofs.FilesSteps.{same-files, output-changed, errors-changed}

@@ -1,4 +1,4 @@
-use Rattle.std.proofs.Common.{◌≡◌, Some, List, ℕ, ◌++◌, [], Option, ap, ◌∙◌, sym}
+use Rattle.std.proofs.Common.{Some, List, ℕ, ◌++◌, Option, ap, ◌∙◌, sym}
 use Rattle.std.proofs.lemmas.Result.{on_ok_weaker}
 use Rattle.cd_world.specs.declared.store.Member.{Member}
 use Rattle.cd_world.specs.Store.{held, bytes_in, with_file}

@@ -1,4 +1,3 @@
-use Rattle.std.proofs.Common.{refl}
 use Rattle.cd_world.proofs.StoreSteps.{held-set-plan, plan-set, plan-absent}
 use Rattle.cd_world.proofs.store.Store.count.Goals as goal
 

@@ -1,4 +1,4 @@
-use Rattle.std.proofs.Common.{◌≡◌, Some, List, ℕ, ◌∙◌, sym, ap}
+use Rattle.std.proofs.Common.{Some, List, ℕ, ◌∙◌, sym, ap}
 use Rattle.cd_world.specs.declared.store.Member.{Member}
 use Rattle.cd_world.proofs.StoreSteps.{held-at, held-none}
 use Rattle.cd_world.proofs.store.Store.find.Goals as goal

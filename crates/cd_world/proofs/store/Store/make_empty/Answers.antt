@@ -1,4 +1,4 @@
-use Rattle.std.proofs.Common.{◌≡◌, Some, [], List, ℕ, ap, ◌∙◌}
+use Rattle.std.proofs.Common.{Some, List, ℕ, ap, ◌∙◌}
 use Rattle.std.proofs.lemmas.Result.{on_ok_weaker}
 use Rattle.cd_world.specs.Store.{held, with_file}
 use Rattle.cd_world.proofs.StoreSteps.{held-set, plan-set-bytes}

@@ -12,7 +12,7 @@ use Rattle.cd_world.specs.Plan.{after, counted}
 use Rattle.cd_world.specs.Store.{held, plan_of, member_name}
 use Rattle.cd_world.specs.Table.{live_of}
 use Rattle.cd_world.proofs.TableSteps.{live-above}
-use Rattle.cd_world.proofs.memory.MemoryWorldWorld.write.Goals as goal
+use Rattle.cd_world.proofs.memory.calls.MemoryWorldWorld.write.Goals as goal
 
 pub returns-then-eq-clause-file : goal.returns-then-eq-clause-file
 returns-then-eq-clause-file c = λ name has.

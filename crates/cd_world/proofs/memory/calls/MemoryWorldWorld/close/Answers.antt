@@ -1,4 +1,4 @@
-use Rattle.std.proofs.Common.{◌≡◌, sym, ◌∙◌, ap}
+use Rattle.std.proofs.Common.{sym, ◌∙◌, ap}
 use Rattle.cd_world.specs.declared.plan.Call.TheVariants.{Closing}
 use Rattle.cd_world.specs.declared.store.Store.{Store}
 use Rattle.cd_world.specs.Files.{without_mark}
@@ -8,7 +8,7 @@ use Rattle.cd_world.specs.Plan.{counted, fails_next}
 use Rattle.cd_world.specs.Store.{held, plan_of, member_name}
 use Rattle.cd_world.proofs.CloseSteps.{closes-done, closes-failed}
 use Rattle.cd_world.proofs.FilesSteps.{same-files}
-use Rattle.cd_world.proofs.memory.MemoryWorldWorld.close.Goals as goal
+use Rattle.cd_world.proofs.memory.calls.MemoryWorldWorld.close.Goals as goal
 
 pub returns-then-is_failing-clause-files : goal.returns-then-is_failing-clause-files
 returns-then-is_failing-clause-files c = λ o has is. closes-failed o c.args.which _ _ is _ (c.fail.ensures.files ∙ same-files _ _ _ _ c.count.ensures.held ∙ c.dismiss-open.ensures.files)

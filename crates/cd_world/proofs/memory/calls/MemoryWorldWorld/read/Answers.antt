@@ -11,7 +11,7 @@ use Rattle.cd_world.specs.Memory.{files_in, plan_in}
 use Rattle.cd_world.specs.Store.{plan_of, member_name}
 use Rattle.cd_world.specs.Table.{live_of}
 use Rattle.cd_world.proofs.TableSteps.{live-above}
-use Rattle.cd_world.proofs.memory.MemoryWorldWorld.read.Goals as goal
+use Rattle.cd_world.proofs.memory.calls.MemoryWorldWorld.read.Goals as goal
 
 pub returns-then-eq-clause-file : goal.returns-then-eq-clause-file
 returns-then-eq-clause-file c = λ name has.
