@@ -1,4 +1,5 @@
 mod Fronts
 mod PassSteps
+mod ScriptSteps
 mod TakeSteps
 mod WriteSteps

@@ -1,2 +1,3 @@
 pub mod Cause
+pub mod Script
 pub mod Take

@@ -45,7 +45,7 @@ fn run_script<W: World>(alloc: Global, world: &mut W, script: &str) -> Cause
     ensures live { W.live world.new ≡ W.live world.old }
 {
     match read_script(alloc, world, script) {
-        Ok(text) => run_text(alloc, world, text.as_slice()),
+        Ok(text) => run_text(alloc, world, &text),
         Err(error) => Cause::from(error),
     }
 }

@@ -1,57 +1,59 @@
 // Reading the script file.
-ghost use Rattle.std.specs.Prelude.{◌≡◌, ◌<◌, ◌≤◌, ◌++◌, ℕ, List, Contains, IsTrue, IfOk, length, take};
+ghost use Rattle.std.specs.Prelude.{◌≡◌, ◌≤◌, ℕ, List, Contains, IsTrue, IfOk, length, take};
 ghost use Rattle.cd_world.specs.declared.event.Use.TheVariants.{Reading};
 ghost use Rattle.cd_world.specs.Causes.{HasCause};
-ghost use Rattle.cd_world.specs.Events.{gave};
-ghost use Rattle.cd_world.specs.Files.{ReadsFile};
 ghost use Rattle.cd_world.specs.Live.{IsLive, open_as};
+ghost use Rattle.cd_cli.specs.Script.{Fills, LogsFill, ReadsFront, LogsRead};
 
 use crate::take::{buffer_of, with_closing};
-use cd_elem::{ByteList, Items};
 use cd_world::{Descriptor, World, WorldError};
 use std::alloc::Global;
 
 /// How many bytes of a script are read: more than any script of the form has.
 const SCRIPT_SIZE: usize = 256;
 
-/// Reads once, adds what was read to a text, and says how many bytes that were. `chunk` is not empty.
-fn read_more<W: World>(
+/// Fills the front of a buffer with what is left of a file, up to the size of the buffer, and says how many bytes
+/// those are.
+fn fill<W: World>(
     world: &mut W,
     from: Descriptor,
-    chunk: &mut [u8],
-    text: &mut ByteList,
+    buffer: &mut [u8],
 ) -> Result<usize, WorldError>
     requires readable { IsLive Reading from (W.live world.old) }
-    requires room { 0 < length chunk.old }
-    ensures within { IfOk result (λ count. count ≤ length chunk.old) }
+    ensures within { IfOk result (λ filled. filled ≤ length buffer.old) }
     ensures cause { HasCause (W.faults world.old) (W.faults world.new) result }
     ensures live { W.live world.new ≡ W.live world.old }
+    ensures files { IsTrue W.tells_files → (name : List ℕ) → Contains (W.live world.old) (open_as Reading from name)
+        → Fills from.0 name buffer.new result (W.files world.old) (W.files world.new) }
+    ensures log { IsTrue W.tells_log → LogsFill from buffer.new result (W.log world.old) (W.log world.new) }
 {
-    let count = world.read(from, chunk)?;
-    text.extend_from_slice(&chunk[..count])?;
-    Ok(count)
-}
-
-/// Reads what is left of a file into a text, up to as many bytes as `chunk` has.
-fn read_front<W: World>(
-    world: &mut W,
-    from: Descriptor,
-    chunk: &mut [u8],
-    text: &mut ByteList,
-) -> Result<(), WorldError>
-    requires readable { IsLive Reading from (W.live world.old) }
-    ensures cause { HasCause (W.faults world.old) (W.faults world.new) result }
-    ensures live { W.live world.new ≡ W.live world.old }
-{
-    let mut left = chunk.len();
-    while left > 0 {
-        let count = read_more(world, from, &mut chunk[..left], text)?;
+    let mut filled = 0;
+    while filled < buffer.len() {
+        let count = world.read(from, &mut buffer[filled..])?;
         if count == 0 {
             break;
         }
-        left -= count;
+        filled += count;
     }
-    Ok(())
+    Ok(filled)
+}
+
+/// Opens a file, fills the front of a buffer with it, and closes it.
+fn read_front<W: World>(
+    world: &mut W,
+    name: &str,
+    buffer: &mut [u8],
+) -> Result<usize, WorldError>
+    ensures within { IfOk result (λ filled. filled ≤ length buffer.old) }
+    ensures cause { HasCause (W.faults world.old) (W.faults world.new) result }
+    ensures live { W.live world.new ≡ W.live world.old }
+    ensures files { IsTrue W.tells_files → ReadsFront name.now (length buffer.new) (λ filled. take filled buffer.new) result (W.files world.old) (W.files world.new) }
+    ensures log { IsTrue W.tells_log → LogsRead name.now (length buffer.new) (λ filled. take filled buffer.new) result (W.log world.old) (W.log world.new) }
+{
+    let from = world.open_read(name)?;
+    let answer = fill(world, from, buffer);
+    let closing = world.close(from);
+    with_closing(answer, closing)
 }
 
 /// Reads a script file to its end, or to `SCRIPT_SIZE` bytes, and closes it.
@@ -59,15 +61,14 @@ pub fn read_script<W: World>(
     alloc: Global,
     world: &mut W,
     name: &str,
-) -> Result<ByteList, WorldError>
+) -> Result<Vec<u8>, WorldError>
     ensures cause { HasCause (W.faults world.old) (W.faults world.new) result }
     ensures live { W.live world.new ≡ W.live world.old }
+    ensures files { IsTrue W.tells_files → ReadsFront name.now 256 (λ text. text.items) result (W.files world.old) (W.files world.new) }
+    ensures log { IsTrue W.tells_log → LogsRead name.now 256 (λ text. text.items) result (W.log world.old) (W.log world.new) }
 {
-    let mut chunk = buffer_of(alloc, SCRIPT_SIZE)?;
-    let mut text = Items::new(alloc);
-    let from = world.open_read(name)?;
-    let answer = read_front(world, from, &mut chunk, &mut text);
-    let closing = world.close(from);
-    with_closing(answer, closing)?;
+    let mut text = buffer_of(alloc, SCRIPT_SIZE)?;
+    let filled = read_front(world, name, &mut text)?;
+    text.truncate(filled);
     Ok(text)
 }
