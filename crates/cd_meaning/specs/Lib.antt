@@ -1,0 +1,10 @@
+pub mod Fusion
+pub mod Laws
+pub mod Meaning
+pub mod Rows
+pub mod Run
+pub mod Scan
+pub mod Sorts
+pub mod Stream
+pub mod TakeForm
+pub mod Words
