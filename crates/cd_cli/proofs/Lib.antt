@@ -1,5 +1,6 @@
 mod Fronts
 mod PassSteps
 mod ScriptSteps
+mod SeenSteps
 mod TakeSteps
 mod WriteSteps

@@ -1,7 +1,7 @@
 -- How a run of reads that are passed on goes on.
-use Rattle.std.proofs.Common.{◌≡◌, ◌≢◌, ℕ, ◌+◌, ◌-◌, ◌≤◌, min, length, length-take, length-append, List, [], ◌∷◌, ◌++◌, take, drop, Result, Ok, Err, refl, sym, ◌∙◌, ap, subst, arith, append_assoc, Bool, true, if◌then◌else◌, ◌==◌}
+use Rattle.std.proofs.Common.{◌≡◌, ◌≢◌, inl, ℕ, ◌+◌, ◌-◌, ◌≤◌, min, length, length-take, length-append, List, [], ◌∷◌, ◌++◌, take, drop, Result, Ok, Err, refl, sym, ◌∙◌, ap, subst, arith, append_assoc}
 use Rattle.std.specs.Prelude.{All, OnOk}
-use Rattle.std.proofs.lemmas.List.{append-nil, drop-drop}
+use Rattle.std.proofs.lemmas.List.{append-nil}
 use Rattle.std.proofs.lemmas.List.Elements.{All-append, All-cons, All-tail}
 use Rattle.std.proofs.lemmas.List.Concat.{flat_map-append}
 use Rattle.std.proofs.lemmas.Bool.Decides.{nat_tests}
@@ -13,8 +13,11 @@ use Rattle.cd_world.specs.declared.world.WorldError.{WorldError}
 use Rattle.cd_world.specs.declared.world.WorldError.TheVariants.{Failed, NoMemory}
 use Rattle.cd_world.specs.Events.{gave, given_by, bytes_given, written_by, written_to, IsWriteOn}
 use Rattle.cd_world.specs.Files.{Files, left_at, with_given, with_output, ReadsFile}
-use Rattle.cd_cli.specs.Take.{Passing, IsMove, LogsFront, LogsPass}
-use Rattle.cd_cli.proofs.Fronts.{take-append, take_least, take-given}
+use Rattle.cd_meaning.specs.Words.{Mark, AtEnd, MayGoOn, Broken}
+use Rattle.cd_cli.specs.Seen.{mark_of}
+use Rattle.cd_cli.specs.Take.{Passing, IsMove, LogsFront, HasEnough, LogsPass}
+use Rattle.cd_cli.proofs.Fronts.{take-append, take_least, take-given, left_after_read}
+use Rattle.cd_cli.proofs.SeenSteps.{mark_behind}
 use Rattle.cd_cli.proofs.WriteSteps.{nothing_more}
 
 -- the files
@@ -56,14 +59,8 @@ module _ (from : Descriptor) (name : List ℕ) (count : ℕ) (f f1 f2 : Files) (
       (ap (λ (f : Files). f.output) out ∙ ap (λ (f : Files). f.output ++ sent) read.1)
       (ap (λ (f : Files). f.contents) out ∙ ap (λ (f : Files). f.contents) read.1)
     where
-      same : (from.0 == from.0) ≡ true
-      same = grind (arith, nat_tests)
-
-      given_is : left_at from.0 name (with_output sent (with_given from.0 (f1.given from.0 + k) f1)) ≡ drop k (left_at from.0 name f1)
-      given_is = ap (λ (b : Bool). drop (if b then f1.given from.0 + k else f1.given from.0) (f1.contents name)) same ∙ sym (drop-drop k (f1.given from.0) (f1.contents name))
-
       left_is : left_at from.0 name f3 ≡ drop k (left_at from.0 name f1)
-      left_is = ap (λ (f : Files). left_at from.0 name f) (out ∙ ap (with_output sent) read.1) ∙ given_is
+      left_is = ap (λ (f : Files). left_at from.0 name f) (out ∙ ap (with_output sent) read.1) ∙ left_after_read from.0 name k f1
 
       split : behind ≡ sent ++ (kept ++ take (left - n) (left_at from.0 name f3))
       split = is ∙ ap (λ (b : List ℕ). take left b) read.0.bytes ∙ take-given left k n into (drop k (left_at from.0 name f1)) fits n_is
@@ -105,31 +102,55 @@ writes_give : (part : List Event) → All (IsWriteOn 1) part → bytes_given par
 writes_give [] writes = refl
 writes_give (e ∷ part) writes = (λ i. write_gives e (writes 0 e (omega arith)) i ++ writes_give part (All-tail (IsWriteOn 1) e part writes) i)
 
--- all that was read is written, up to `count` bytes, of which `left` are still to come
-pub record LogsPassing (d count left : ℕ) (l l' : List Event) : Type 0 where
+write_marks : (e : Event) (events : List Event) → IsWriteOn 1 e → mark_of (e ∷ events) ≡ mark_of events
+write_marks (OpenedRead name e) events w = absurd w
+write_marks (Created name e) events w = absurd w
+write_marks (Marked name e) events w = absurd w
+write_marks (OpenFailed name) events w = absurd w
+write_marks (Gave e bytes) events w = absurd w
+write_marks (GaveEnd e) events w = absurd w
+write_marks (ReadFailed e) events w = absurd w
+write_marks (Wrote e bytes) events w = refl
+write_marks (WriteFailed e) events w = refl
+write_marks (Closed e) events w = absurd w
+write_marks (CloseFailing e) events w = absurd w
+
+writes_mark : (part : List Event) → All (IsWriteOn 1) part → mark_of part ≡ MayGoOn
+writes_mark [] writes = refl
+writes_mark (e ∷ part) writes = write_marks e part (writes 0 e (omega arith)) ∙ writes_mark part (All-tail (IsWriteOn 1) e part writes)
+
+-- All that was read is written, up to `count` bytes, of which `left` are still to come, and this is known of what is behind it.
+pub record LogsPassing (d count left : ℕ) (mark : Mark) (l l' : List Event) : Type 0 where
   pub part : List Event
   pub log : l' ≡ l ++ part
   pub moves : All (IsMove d) part
   pub written : written_to 1 part ≡ take count (bytes_given part)
   pub still : left ≡ count - length (bytes_given part)
+  pub mark_is : mark_of part ≡ mark
 
-pub log_pass_none : (d count : ℕ) (l : List Event) → LogsPassing d count count l l
-log_pass_none d count l = record { part = []; log = sym (append-nil l); moves = nothing_more (IsMove d); written = sym (take-nil count); still = omega arith }
+pub log_pass_none : (d count : ℕ) (l : List Event) → LogsPassing d count count MayGoOn l l
+log_pass_none d count l = record { part = []; log = sym (append-nil l); moves = nothing_more (IsMove d); written = sym (take-nil count); still = omega arith; mark_is = refl }
 
 -- what was passed so far, as an answer
-pub logs_pass : {T : Type 0} (d count left : ℕ) (l l' : List Event) (result : Result T WorldError) → LogsPassing d count left l l' → OnOk result (◌≡◌ {A = List ℕ} [] []) → LogsPass d count result l l'
-logs_pass d count left l l' result so_far whole = record {
+pub logs_pass : {T : Type 0} (d count left : ℕ) (mark : Mark) (l l' : List Event) (result : Result T WorldError) (so_far : LogsPassing d count left mark l l') → OnOk result (◌≡◌ {A = List ℕ} [] [])
+    → OnOk result (HasEnough count so_far.part) → LogsPass d count result l l'
+logs_pass d count left mark l l' result so_far whole enough = record {
   part = so_far.part;
   log = so_far.log;
   moves = so_far.moves;
   behind = [];
   front = sym so_far.written ∙ sym (append-nil (written_to 1 so_far.part));
   whole = whole;
+  enough = enough;
 }
 
-module _ (from : Descriptor) (count left : ℕ) (into : List ℕ) (l l1 l2 : List Event) (so_far : LogsPassing from.0 count left l l1) where
+-- none are still to come
+pub enough_passed : (d count left : ℕ) (mark : Mark) (l l' : List Event) (so_far : LogsPassing d count left mark l l') → left ≡ 0 → HasEnough count so_far.part
+enough_passed d count left mark l l' so_far none = inl (omega (arith, so_far.still, none))
+
+module _ (from : Descriptor) (count left : ℕ) (into : List ℕ) (l l1 l2 : List Event) (so_far : LogsPassing from.0 count left MayGoOn l l1) where
   -- a call that read nothing
-  idle : (e : Event) → l2 ≡ l1 ++ e ∷ [] → IsMove from.0 e → given_by e ≡ [] → written_by 1 e ≡ [] → LogsPassing from.0 count left l l2
+  idle : (e : Event) → l2 ≡ l1 ++ e ∷ [] → IsMove from.0 e → given_by e ≡ [] → written_by 1 e ≡ [] → LogsPassing from.0 count left (mark_of (e ∷ [])) l l2
   idle e log move gives writes =
       let given : bytes_given (so_far.part ++ e ∷ []) ≡ bytes_given so_far.part = flat_map-append given_by so_far.part (e ∷ []) ∙ ap (λ (b : List ℕ). bytes_given so_far.part ++ (b ++ [])) gives ∙ append-nil (bytes_given so_far.part) in
       let wrote : written_to 1 (so_far.part ++ e ∷ []) ≡ written_to 1 so_far.part = flat_map-append (written_by 1) so_far.part (e ∷ []) ∙ ap (λ (b : List ℕ). written_to 1 so_far.part ++ (b ++ [])) writes ∙ append-nil (written_to 1 so_far.part) in
@@ -139,13 +160,14 @@ module _ (from : Descriptor) (count left : ℕ) (into : List ℕ) (l l1 l2 : Lis
         moves = All-append (IsMove from.0) so_far.part (e ∷ []) so_far.moves (All-cons (IsMove from.0) e [] move (nothing_more (IsMove from.0)));
         written = wrote ∙ so_far.written ∙ ap (take count) (sym given);
         still = so_far.still ∙ ap (λ (b : List ℕ). count - length b) (sym given);
+        mark_is = mark_behind so_far.part (e ∷ []) so_far.mark_is;
       }
 
-  pub log_pass_refused : (e : WorldError) → l2 ≡ l1 ++ gave from into (Err e) → LogsPassing from.0 count left l l2
-  log_pass_refused Failed log = idle (ReadFailed from) log refl refl refl
-  log_pass_refused NoMemory log = subst (λ (k : List Event). LogsPassing from.0 count left l k) (sym (log ∙ append-nil l1)) so_far
+  pub log_pass_refused : (e : WorldError) → l2 ≡ l1 ++ gave from into (Err e) → (mark : Mark) × LogsPassing from.0 count left mark l l2
+  log_pass_refused Failed log = (Broken, idle (ReadFailed from) log refl refl refl)
+  log_pass_refused NoMemory log = (MayGoOn, subst (λ (k : List Event). LogsPassing from.0 count left MayGoOn l k) (sym (log ∙ append-nil l1)) so_far)
 
-  pub log_pass_end : (k : ℕ) → k ≡ 0 → l2 ≡ l1 ++ gave from into (Ok k) → LogsPassing from.0 count left l l2
+  pub log_pass_end : (k : ℕ) → k ≡ 0 → l2 ≡ l1 ++ gave from into (Ok k) → LogsPassing from.0 count left AtEnd l l2
   log_pass_end k zero log = idle (GaveEnd from) (subst (λ (m : ℕ). l2 ≡ l1 ++ gave from into (Ok m)) zero log) refl refl refl
 
   -- a read that gave bytes, and writes of the front of them
@@ -175,6 +197,10 @@ module _ (from : Descriptor) (count left : ℕ) (into : List ℕ) (l l1 l2 : Lis
     unfolding now
     written_is = flat_map-append (written_by 1) so_far.part now
 
+    mark_now : mark_of (so_far.part ++ now) ≡ MayGoOn
+    unfolding now
+    mark_now = mark_behind so_far.part now so_far.mark_is ∙ writes_mark out.part out.writes
+
     size : length (take k into) ≡ k
     size = omega (arith, length-take k into)
 
@@ -185,10 +211,10 @@ module _ (from : Descriptor) (count left : ℕ) (into : List ℕ) (l l1 l2 : Lis
         ∙ sym (append_assoc (written_to 1 so_far.part) (written_to 1 out.part) out.behind)
         ∙ ap (λ (b : List ℕ). b ++ out.behind) (sym written_is)
 
-    pub log_pass_stopped : {U : Type 0} (result : Result U WorldError) → OnOk result (out.behind ≡ []) → LogsPass from.0 count result l l3
-    log_pass_stopped result whole = record { part = so_far.part ++ now; log = log_is; moves = moves_are; behind = out.behind; front = front_is; whole = whole }
+    pub log_pass_stopped : {U : Type 0} (result : Result U WorldError) → ((P : Type 0) → OnOk result P) → LogsPass from.0 count result l l3
+    log_pass_stopped result none = record { part = so_far.part ++ now; log = log_is; moves = moves_are; behind = out.behind; front = front_is; whole = none _; enough = none _ }
 
-    pub log_pass_turn : out.behind ≡ [] → LogsPassing from.0 count (left - n) l l3
+    pub log_pass_turn : out.behind ≡ [] → LogsPassing from.0 count (left - n) MayGoOn l l3
     log_pass_turn none = record {
       part = so_far.part ++ now;
       log = log_is;
@@ -196,4 +222,5 @@ module _ (from : Descriptor) (count left : ℕ) (into : List ℕ) (l l1 l2 : Lis
       written = sym (front_is ∙ ap (λ (b : List ℕ). written_to 1 (so_far.part ++ now) ++ b) none ∙ append-nil (written_to 1 (so_far.part ++ now)));
       still = let total : length (bytes_given (so_far.part ++ now)) ≡ length (bytes_given so_far.part) + k = ap length given_is ∙ length-append (bytes_given so_far.part) (take k into) ∙ ap (λ (m : ℕ). length (bytes_given so_far.part) + m) size in
           omega (arith, so_far.still, total, n_is);
+      mark_is = mark_now;
     }

@@ -1,3 +1,4 @@
 pub mod Cause
 pub mod Script
+pub mod Seen
 pub mod Take

@@ -1,10 +1,12 @@
 -- What a run of a file's first bytes to standard output does to the files, and what it calls.
-use Rattle.std.specs.Prelude.{◌≡◌, ℕ, List, [], ◌∷◌, ◌++◌, All, take, Result, OnOk}
+use Rattle.std.specs.Prelude.{◌≡◌, ◌≤◌, ◌⊎◌, ℕ, List, [], ◌∷◌, ◌++◌, All, length, take, Result, OnOk}
 use Rattle.cd_world.specs.declared.event.Descriptor.{Descriptor}
 use Rattle.cd_world.specs.declared.event.Event.{Event}
 use Rattle.cd_world.specs.declared.event.Event.TheVariants.{OpenedRead, OpenFailed, Gave, GaveEnd, ReadFailed, Wrote, WriteFailed}
 use Rattle.cd_world.specs.Events.{written_to, bytes_given, IsWriteOn, IsCloseOf}
 use Rattle.cd_world.specs.Files.{Files, with_output, left_at}
+use Rattle.cd_meaning.specs.Words.{AtEnd}
+use Rattle.cd_cli.specs.Seen.{mark_of}
 
 -- A front of these bytes was written to standard output, and all of them where that went well.
 pub record WritesFront {T E : Type 0} (bytes : List ℕ) (result : Result T E) (f f' : Files) : Type 0 where
@@ -45,7 +47,11 @@ IsMove d (Wrote to bytes) = to.0 ≡ 1
 IsMove d (WriteFailed to) = to.0 ≡ 1
 IsMove d _ = ⊥
 
--- Of the first `count` bytes that were read a front was written, and all of them where that went well.
+-- so many bytes were read, or the end was told
+abbrev pub HasEnough : ℕ → List Event → Type 0
+HasEnough count events = (count ≤ length (bytes_given events)) ⊎ (mark_of events ≡ AtEnd)
+
+-- Of the first `count` bytes that were read a front was written. Where that went well all of them were, and no more are to be had.
 pub record LogsPass {T E : Type 0} (d : ℕ) (count : ℕ) (result : Result T E) (l l' : List Event) : Type 0 where
   pub part : List Event
   pub log : l' ≡ l ++ part
@@ -53,6 +59,7 @@ pub record LogsPass {T E : Type 0} (d : ℕ) (count : ℕ) (result : Result T E)
   pub behind : List ℕ
   pub front : take count (bytes_given part) ≡ written_to 1 part ++ behind
   pub whole : OnOk result (behind ≡ [])
+  pub enough : OnOk result (HasEnough count part)
 
 -- A front of the file's first `count` bytes was written to standard output, and all of them where that went well.
 pub record Takes {T E : Type 0} (name : List ℕ) (count : ℕ) (result : Result T E) (f f' : Files) : Type 0 where
@@ -69,7 +76,7 @@ pub data OpensAndCloses (name : List ℕ) : List Event → Type 0 where
   open_refused : OpensAndCloses name (OpenFailed name ∷ [])
   open_closed : (d : Descriptor) (moves : List Event) (end : Event) → All (IsMove d.0) moves → IsCloseOf d end → OpensAndCloses name (OpenedRead name d ∷ moves ++ end ∷ [])
 
--- Of the first `count` bytes that were read a front was written, and all of them where that went well.
+-- Of the first `count` bytes that were read a front was written. Where that went well all of them were, and no more are to be had.
 pub record LogsTake {T E : Type 0} (name : List ℕ) (count : ℕ) (result : Result T E) (l l' : List Event) : Type 0 where
   pub part : List Event
   pub log : l' ≡ l ++ part
@@ -77,3 +84,4 @@ pub record LogsTake {T E : Type 0} (name : List ℕ) (count : ℕ) (result : Res
   pub behind : List ℕ
   pub front : take count (bytes_given part) ≡ written_to 1 part ++ behind
   pub whole : OnOk result (behind ≡ [])
+  pub enough : OnOk result (HasEnough count part)
