@@ -54,14 +54,14 @@ form_line_is name count = simp append_assoc
 -- the newline
 
 -- a text and what is before a newline at its end, or all of it where there is none
-abbrev pub IsLine : List ℕ → List ℕ → Type 0
+abbrev IsLine : List ℕ → List ℕ → Type 0
 IsLine text line = (text ≡ line ++ 10 ∷ []) ⊎ ((text ≡ line) × ((front : List ℕ) → text ≢ front ++ 10 ∷ []))
 
-pub line_is : (text line : Bor (List ℕ)) (r : Option (Bor (List ℕ))) → MatchOption r (FindsCharSuffix 10 text.now None) (λ x. StripsSuffix (FindsCharSuffix 10) text.now x.now)
-    → line ≡ unwrap_or r text → IsLine text.now line.now
+is_line : (text line : Bor (List ℕ)) (cut : Option (Bor (List ℕ))) → MatchOption cut (FindsCharSuffix 10 text.now None) (λ x. StripsSuffix (FindsCharSuffix 10) text.now x.now)
+    → line ≡ unwrap_or cut text → IsLine text.now line.now
 unfolding encode
-line_is text line None stripped is = inr (sym (ap (λ (b : Bor (List ℕ)). b.now) is), stripped)
-line_is text line (Some cut) stripped is = inl (strip_suffix_char 10 text.now (Some cut) stripped (omega arith) ∙ ap (λ (b : Bor (List ℕ)). b.now ++ 10 ∷ []) (sym is))
+is_line text line None stripped is = inr (sym (ap (λ (b : Bor (List ℕ)). b.now) is), stripped)
+is_line text line (Some cut) stripped is = inl (strip_suffix_char 10 text.now (Some cut) stripped (omega arith) ∙ ap (λ (b : Bor (List ℕ)). b.now ++ 10 ∷ []) (sym is))
 
 ends_apart : (s front front' : List ℕ) → s ≡ front ++ 10 ∷ [] → s ≡ front' ++ 59 ∷ [] → ⊥
 ends_apart s front front' e e' = let a = end_rest s (10 ∷ []) front e in let b = end_rest s (59 ∷ []) front' e' in cc
@@ -69,66 +69,82 @@ ends_apart s front front' e e' = let a = end_rest s (10 ∷ []) front e in let b
 form_end : (name : List ℕ) (count : ℕ) (front : List ℕ) → form_text name count ≢ front ++ 10 ∷ []
 form_end name count front e = ends_apart _ front (codes "run sourceFile \"" ++ name ++ codes "\" | takeE " ++ decimal count ++ codes " | stdout") e (simp append_assoc)
 
-pub line_of_form : (text line name : List ℕ) (count : ℕ) → IsLine text line → IsForm text name count → line ≡ form_line name count
-line_of_form text line name count is form = go is form.text_is ∙ sym (form_line_is name count)
-  where
-    go : IsLine text line → (text ≡ form_text name count) ⊎ (text ≡ form_text name count ++ 10 ∷ []) → line ≡ form_text name count
-    go (inl cut) (inl whole) = absurd (form_end name count line (sym whole ∙ cut))
-    go (inl cut) (inr whole) = append_cancel_right line (form_text name count) (10 ∷ []) (sym cut ∙ whole)
-    go (inr (same, none)) (inl whole) = sym same ∙ whole
-    go (inr (same, none)) (inr whole) = absurd (none (form_text name count) whole)
+line_of_form : (text line name : List ℕ) (count : ℕ) → IsLine text line → (text ≡ form_text name count) ⊎ (text ≡ form_text name count ++ 10 ∷ []) → line ≡ form_text name count
+line_of_form text line name count (inl cut) (inl whole) = absurd (form_end name count line (sym whole ∙ cut))
+line_of_form text line name count (inl cut) (inr whole) = append_cancel_right line (form_text name count) (10 ∷ []) (sym cut ∙ whole)
+line_of_form text line name count (inr (same, none)) (inl whole) = sym same ∙ whole
+line_of_form text line name count (inr (same, none)) (inr whole) = absurd (none (form_text name count) whole)
 
-pub form_of_line : (text line name : List ℕ) (count : ℕ) → IsLine text line → line ≡ form_line name count → IsName name → count ≤ 65536 → IsForm text name count
-form_of_line text line name count is line_is is_name within = record { is_name = is_name; within = within; text_is = go is }
-  where
-    same_line : line ≡ form_text name count
-    same_line = line_is ∙ form_line_is name count
+form_of_line : (text line name : List ℕ) (count : ℕ) → IsLine text line → line ≡ form_text name count → (text ≡ form_text name count) ⊎ (text ≡ form_text name count ++ 10 ∷ [])
+form_of_line text line name count (inl cut) is = inr (cut ∙ ap (λ (l : List ℕ). l ++ 10 ∷ []) is)
+form_of_line text line name count (inr (same, none)) is = inl (same ∙ is)
 
-    go : IsLine text line → (text ≡ form_text name count) ⊎ (text ≡ form_text name count ++ 10 ∷ [])
-    go (inl cut) = inr (cut ∙ ap (λ (l : List ℕ). l ++ 10 ∷ []) same_line)
-    go (inr (same, none)) = inl (same ∙ same_line)
+-- what is stripped
 
--- the name
-
-pub no_quote : (name : List ℕ) → IsName name → (i : ℕ) → i < length name → get_or name i 0 ≢ 34
-no_quote name is i within quote = let b : IsTrue (is_name_byte 34) = subst (λ (c : ℕ). IsTrue (is_name_byte c)) quote (is.bytes i 0 within) in cc
-
--- what is stripped and split
-
-pub front_stripped : (n s x : List ℕ) → StripsPrefix (FindsTextPrefix n) s x → s ≡ n ++ x
+front_stripped : (n s x : List ℕ) → StripsPrefix (FindsTextPrefix n) s x → s ≡ n ++ x
 front_stripped n s x (k, finds, is, len) = finds.1 ∙ ap (λ (x : List ℕ). n ++ x) (sym is)
 
-pub end_stripped : (n s x : List ℕ) → StripsSuffix (FindsTextSuffix n) s x → s ≡ x ++ n
+end_stripped : (n s x : List ℕ) → StripsSuffix (FindsTextSuffix n) s x → s ≡ x ++ n
 end_stripped n s x (k, finds, is, len) = finds.1 ∙ ap (λ (x : List ℕ). x ++ n) (sym is)
+
+-- the parts
+
+no_quote : (name : List ℕ) → IsName name → (i : ℕ) → i < length name → get_or name i 0 ≢ 34
+no_quote name is i within quote = let b : IsTrue (is_name_byte 34) = subst (λ (c : ℕ). IsTrue (is_name_byte c)) quote (is.bytes i 0 within) in cc
 
 pub none_of : {T : Type 0} (r : Option T) (P : Type 0) → P → IfNone r P
 none_of None P p = p
 none_of (Some x) P p = tt
 
-module _ (name : List ℕ) (count : ℕ) (is_name : IsName name) where
-  module _ (line rest : List ℕ) (line_is : line ≡ form_line name count) (at : line ≡ codes "run sourceFile \"" ++ rest) where
-    pub rest_is : rest ≡ name ++ 34 ∷ tail count
-    rest_is = append_cancel_left (codes "run sourceFile \"") rest (name ++ 34 ∷ tail count) (sym at ∙ line_is)
+module _ (text line : Bor (List ℕ)) (cut : Option (Bor (List ℕ)))
+    (at_newline : MatchOption cut (FindsCharSuffix 10 text.now None) (λ x. StripsSuffix (FindsCharSuffix 10) text.now x.now)) (line_is : line ≡ unwrap_or cut text) where
+  -- each part that is read of a text of the form is the form's
+  module _ (name : List ℕ) (count : ℕ) (form : IsForm text.now name count) where
+    pub line_read : line.now ≡ form_line name count
+    line_read = line_of_form text.now line.now name count (is_line text line cut at_newline line_is) form.text_is ∙ sym (form_line_is name count)
 
-    pub has_quote : FindsChar 34 rest None → ⊥
-    has_quote none = split_after 34 rest name (tail count) None none (omega arith) rest_is (no_quote name is_name)
+    module _ (rest : Bor (List ℕ)) (at_front : StripsPrefix (FindsTextPrefix (codes "run sourceFile \"")) line.now rest.now) where
+      rest_read : rest.now ≡ name ++ 34 ∷ tail count
+      rest_read = append_cancel_left (codes "run sourceFile \"") rest.now (name ++ 34 ∷ tail count) (sym (front_stripped (codes "run sourceFile \"") line.now rest.now at_front) ∙ line_read)
 
-    module _ (name' rest' : Bor (List ℕ)) (split : IsSplitOnceResult 34 rest (Some (name', rest'))) where
-      pub name_found : (name'.now ≡ name) × (rest'.now ≡ tail count)
-      name_found = split_after 34 rest name (tail count) (Some (name', rest')) split (omega arith) rest_is (no_quote name is_name)
+      pub has_quote : FindsChar 34 rest.now None → ⊥
+      has_quote none = split_after 34 rest.now name (tail count) None none (omega arith) rest_read (no_quote name form.is_name)
 
-      module _ (number : List ℕ) (at_number : rest'.now ≡ codes " | takeE " ++ number) where
-        pub number_is : number ≡ decimal count ++ codes " | stdout;"
-        number_is = append_cancel_left (codes " | takeE ") number (decimal count ++ codes " | stdout;") (sym at_number ∙ name_found.1)
+      module _ (name' rest' : Bor (List ℕ)) (at_quote : IsSplitOnceResult 34 rest.now (Some (name', rest'))) where
+        both_read : (name'.now ≡ name) × (rest'.now ≡ tail count)
+        both_read = split_after 34 rest.now name (tail count) (Some (name', rest')) at_quote (omega arith) rest_read (no_quote name form.is_name)
 
-        pub digits_are : (digits : List ℕ) → number ≡ digits ++ codes " | stdout;" → digits ≡ decimal count
-        digits_are digits at_end = append_cancel_right digits (decimal count) (codes " | stdout;") (sym at_end ∙ number_is)
+        pub name_read : IsName name'.now
+        name_read = subst IsName (sym both_read.0) form.is_name
 
-pub form_joined : (line rest number digits : List ℕ) (name' rest' : Bor (List ℕ)) (count : ℕ) → line ≡ codes "run sourceFile \"" ++ rest → IsSplitOnceResult 34 rest (Some (name', rest'))
-    → rest'.now ≡ codes " | takeE " ++ number → number ≡ digits ++ codes " | stdout;" → digits ≡ decimal count → line ≡ form_line name'.now count
-form_joined line rest number digits name' rest' count at split at_number at_end is =
-    let parts = split_parts 34 rest (Some (name', rest')) split (omega arith) in
-    at ∙ ap (λ (l : List ℕ). codes "run sourceFile \"" ++ l) (parts.0
-    ∙ ap (λ (l : List ℕ). name'.now ++ 34 ∷ l) (at_number
-    ∙ ap (λ (l : List ℕ). codes " | takeE " ++ l) (at_end
-    ∙ ap (λ (l : List ℕ). l ++ codes " | stdout;") is)))
+        pub tail_read : rest'.now ≡ tail count
+        tail_read = both_read.1
+
+        module _ (number : Bor (List ℕ)) (at_count : StripsPrefix (FindsTextPrefix (codes " | takeE ")) rest'.now number.now) where
+          pub number_read : number.now ≡ decimal count ++ codes " | stdout;"
+          number_read = append_cancel_left (codes " | takeE ") number.now (decimal count ++ codes " | stdout;")
+              (sym (front_stripped (codes " | takeE ") rest'.now number.now at_count) ∙ tail_read)
+
+          pub digits_read : (digits : Bor (List ℕ)) → StripsSuffix (FindsTextSuffix (codes " | stdout;")) number.now digits.now → digits.now ≡ decimal count
+          digits_read digits at_end = append_cancel_right digits.now (decimal count) (codes " | stdout;")
+              (sym (end_stripped (codes " | stdout;") number.now digits.now at_end) ∙ number_read)
+
+  -- a text of which the parts are those of a form is of the form
+  pub is_form : (rest name rest' number digits : Bor (List ℕ)) (count : ℕ)
+      → StripsPrefix (FindsTextPrefix (codes "run sourceFile \"")) line.now rest.now
+      → IsSplitOnceResult 34 rest.now (Some (name, rest'))
+      → StripsPrefix (FindsTextPrefix (codes " | takeE ")) rest'.now number.now
+      → StripsSuffix (FindsTextSuffix (codes " | stdout;")) number.now digits.now
+      → IsName name.now → (count ≤ 65536) × (digits.now ≡ decimal count) → IsForm text.now name.now count
+  is_form rest name rest' number digits count at_front at_quote at_count at_end is_name counted = record {
+    is_name = is_name;
+    within = counted.0;
+    text_is = form_of_line text.now line.now name.now count (is_line text line cut at_newline line_is) (joined ∙ form_line_is name.now count);
+  }
+    where
+      joined : line.now ≡ form_line name.now count
+      joined = front_stripped (codes "run sourceFile \"") line.now rest.now at_front
+          ∙ ap (λ (l : List ℕ). codes "run sourceFile \"" ++ l) ((split_parts 34 rest.now (Some (name, rest')) at_quote (omega arith)).0
+          ∙ ap (λ (l : List ℕ). name.now ++ 34 ∷ l) (front_stripped (codes " | takeE ") rest'.now number.now at_count
+          ∙ ap (λ (l : List ℕ). codes " | takeE " ++ l) (end_stripped (codes " | stdout;") number.now digits.now at_end
+          ∙ ap (λ (l : List ℕ). l ++ codes " | stdout;") counted.1)))

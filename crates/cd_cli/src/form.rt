@@ -1,6 +1,6 @@
 // The form of the scripts that run.
 ghost use Rattle.std.specs.Prelude.{◌≡◌, ◌≢◌, ◌≤◌, ◌↔◌, ℕ, List, IsTrue, IfSome, IfNone, decimal};
-ghost use Rattle.cd_cli.specs.Form.{IsName, IsForm};
+ghost use Rattle.cd_cli.specs.Form.{is_name_byte, IsName, IsForm};
 
 /// What a script of the form says: pass the first `count` bytes of a file on to standard output.
 pub struct Form<'a> {
@@ -34,11 +34,14 @@ pub fn form_of(text: &str) -> Option<Form<'_>>
 fn is_name(text: &str) -> bool
     ensures { IsTrue result ↔ IsName text.now }
 {
-    !text.is_empty()
-        && text.len() <= 64
-        && text
-            .bytes()
-            .all(|byte| byte.is_ascii_alphanumeric() || byte == b'.')
+    !text.is_empty() && text.len() <= 64 && text.bytes().all(is_name_byte)
+}
+
+/// Whether a byte is an ASCII letter, a digit or `.`.
+fn is_name_byte(byte: u8) -> bool
+    ensures { result ≡ is_name_byte byte }
+{
+    byte.is_ascii_alphanumeric() || byte == b'.'
 }
 
 /// Reads a count, which has no sign and no leading zeros.
