@@ -1,3 +1,4 @@
+mod FormSteps
 mod Fronts
 mod PassSteps
 mod ScriptSteps

@@ -1,4 +1,6 @@
 pub mod Cause
+pub mod Command
+pub mod Form
 pub mod Script
 pub mod Seen
 pub mod Take
