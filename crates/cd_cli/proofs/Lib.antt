@@ -1,3 +1,4 @@
+mod CommandSteps
 mod FormSteps
 mod Fronts
 mod PassSteps

@@ -1,6 +1,10 @@
 // The command, from its words on.
-ghost use Rattle.std.specs.Prelude.{◌≡◌};
+ghost use Rattle.std.specs.Prelude.{◌≡◌, ◌⊎◌, ℕ, List, IfSome, IfNone, IsTrue, map, take};
+ghost use Rattle.std.specs.String.{string_bytes};
+ghost use Rattle.cd_world.specs.Causes.{Rose};
 ghost use Rattle.cd_cli.specs.Cause.{HasOrigin, status_of};
+ghost use Rattle.cd_cli.specs.Command.{IsRun, Called, Sent, Calls, Answers, ReadsAndJudges, SendsScript, LogsJudging, Sends};
+ghost use Rattle.cd_cli.specs.Form.{IsForm};
 
 use crate::cause::{Cause, Outcome};
 use crate::form::{Form, form_of};
@@ -18,6 +22,8 @@ pub fn conduit_main<W: World>(alloc: Global, words: &[String], world: &mut W) ->
     ensures status { result.status ≡ status_of result.cause }
     ensures origin { HasOrigin (W.faults world.old) (W.faults world.new) result.cause }
     ensures live { W.live world.new ≡ W.live world.old }
+    ensures files { IsTrue W.tells_files → Sent (Answers (map string_bytes words.now) (W.files world.old).contents result.cause) (W.files world.old) (W.files world.new) }
+    ensures log { IsTrue W.tells_log → Called (Calls (map string_bytes words.now) result.cause) (W.log world.old) (W.log world.new) }
 {
     let cause = match script_name(words) {
         Some(script) => run_script(alloc, world, script),
@@ -30,7 +36,10 @@ pub fn conduit_main<W: World>(alloc: Global, words: &[String], world: &mut W) ->
 }
 
 /// The script that the words `run SCRIPT` name, and None for other words.
-fn script_name(words: &[String]) -> Option<&str> {
+fn script_name(words: &[String]) -> Option<&str>
+    ensures named { IfSome result (λ script. IsRun (map string_bytes words.now) script.now) }
+    ensures none { IfNone result ((script : List ℕ) → IsRun (map string_bytes words.now) script → ⊥) }
+{
     match words {
         [command, script] if command.as_str() == "run" && !script.is_empty() => {
             Some(script.as_str())
@@ -43,6 +52,8 @@ fn script_name(words: &[String]) -> Option<&str> {
 fn run_script<W: World>(alloc: Global, world: &mut W, script: &str) -> Cause
     ensures origin { HasOrigin (W.faults world.old) (W.faults world.new) result }
     ensures live { W.live world.new ≡ W.live world.old }
+    ensures files { IsTrue W.tells_files → Sent (SendsScript (W.files world.old).contents script.now result) (W.files world.old) (W.files world.new) }
+    ensures log { IsTrue W.tells_log → Called (ReadsAndJudges script.now result) (W.log world.old) (W.log world.new) }
 {
     match read_script(alloc, world, script) {
         Ok(text) => run_text(alloc, world, &text),
@@ -54,6 +65,8 @@ fn run_script<W: World>(alloc: Global, world: &mut W, script: &str) -> Cause
 fn run_text<W: World>(alloc: Global, world: &mut W, text: &[u8]) -> Cause
     ensures origin { HasOrigin (W.faults world.old) (W.faults world.new) result }
     ensures live { W.live world.new ≡ W.live world.old }
+    ensures files { IsTrue W.tells_files → Sent (Sends (W.files world.old).contents text.now result) (W.files world.old) (W.files world.new) }
+    ensures log { IsTrue W.tells_log → LogsJudging text.now result (W.log world.old) (W.log world.new) }
 {
     let Ok(text) = str::from_utf8(text) else {
         return Cause::NotBuilt;

@@ -1,0 +1,32 @@
+use Rattle.std.proofs.Common.{List, sym, subst, map}
+use Rattle.std.specs.String.{string_bytes}
+use Rattle.cd_cli.specs.declared.cause.Cause.{Cause}
+use Rattle.cd_cli.specs.declared.cause.Cause.TheVariants.{NotBuilt}
+use Rattle.cd_cli.specs.Command.{Calls, Called, Answers as Sends, Sent}
+use Rattle.cd_cli.proofs.CommandSteps.{words_sends, words_logs, others_send, others_log}
+use Rattle.cd_cli.proofs.command.conduit_main.Goals.{in-Some, in-None}
+use Rattle.cd_cli.proofs.command.conduit_main.Goals as goal
+
+pub returns-clause-files : goal.returns-clause-files
+returns-clause-files g c = λ tells.
+    let words = map string_bytes c.args.words.now in
+    let files = g.W.World.files c.args.world.now in
+    elim c.match-script_name.branch [
+      | in-Some w ↦ subst (λ (cause : Cause). Sent (Sends words files.contents cause) files (g.W.World.files c.match-script_name.world)) (sym w.cause-is)
+          (subst (λ world. Sent (Sends words files.contents w.run_script-cause.result) files (g.W.World.files world)) (sym w.world-is)
+          (words_sends words w.in-Some.script.now w.run_script-cause.result files _ w.in-Some.ensures.named (w.run_script-cause.ensures.files tells)))
+      | in-None w ↦ subst (λ (cause : Cause). Sent (Sends words files.contents cause) files (g.W.World.files c.match-script_name.world)) (sym w.cause-is)
+          (subst (λ world. Sent (Sends words files.contents NotBuilt) files (g.W.World.files world)) (sym w.world-is) (others_send words w.in-None.ensures.none files))
+    ]
+
+pub returns-clause-log : goal.returns-clause-log
+returns-clause-log g c = λ tells.
+    let words = map string_bytes c.args.words.now in
+    let log = g.W.World.log c.args.world.now in
+    elim c.match-script_name.branch [
+      | in-Some w ↦ subst (λ (cause : Cause). Called (Calls words cause) log (g.W.World.log c.match-script_name.world)) (sym w.cause-is)
+          (subst (λ world. Called (Calls words w.run_script-cause.result) log (g.W.World.log world)) (sym w.world-is)
+          (words_logs words w.in-Some.script.now w.run_script-cause.result log _ w.in-Some.ensures.named (w.run_script-cause.ensures.log tells)))
+      | in-None w ↦ subst (λ (cause : Cause). Called (Calls words cause) log (g.W.World.log c.match-script_name.world)) (sym w.cause-is)
+          (subst (λ world. Called (Calls words NotBuilt) log (g.W.World.log world)) (sym w.world-is) (others_log words w.in-None.ensures.none log))
+    ]
