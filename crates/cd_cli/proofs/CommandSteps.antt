@@ -1,29 +1,30 @@
 -- What the command does, from what its steps do.
-use Rattle.std.proofs.Common.{◌≡◌, ◌≢◌, ◌⊎◌, inl, inr, ℕ, ◌≤◌, ◌<◌, Bool, true, false, nat_le, nat_lt, IsTrue, if◌then◌else◌, List, [], ◌∷◌, ◌++◌, length, take, codes, decimal, Result, Ok, Err, refl, sym, ◌∙◌, ap, ap₂, subst, arith, append_assoc, get_or}
-use Rattle.std.specs.Prelude.{All, IfOk, OnOk, OnErr, IsAscii, IsUtf8}
-use Rattle.std.proofs.lemmas.List.{append-nil}
+use Rattle.std.proofs.Common.{◌≡◌, ◌≢◌, ◌⊎◌, inl, inr, ℕ, ◌≤◌, ◌<◌, Bool, true, false, nat_le, nat_lt, IsTrue, if◌then◌else◌, List, [], ◌∷◌, ◌++◌, length, length-take, length-append, ◌+◌, take, codes, decimal, Result, Ok, Err, refl, sym, ◌∙◌, ap, ap₂, subst, arith, append_assoc, get_or}
+use Rattle.std.specs.Prelude.{All, OnOk, IsAscii, IsUtf8}
+use Rattle.std.proofs.lemmas.List.{append-nil, take_all}
 use Rattle.std.proofs.lemmas.List.Elements.{All-weaker}
 use Rattle.std.proofs.lemmas.List.Sums.{AllPass-from_list_all}
 use Rattle.std.proofs.lemmas.Bool.Decides.{nat_tests}
-use Rattle.std.proofs.lemmas.Fmt.{IsAscii-decimal}
+use Rattle.std.proofs.lemmas.Fmt.{IsAscii-decimal, length-decimal-le}
 use Rattle.std.proofs.lemmas.Str.{IsAscii-append, IsUtf8-from_ascii}
 use Rattle.std.proofs.lemmas.Str.Ascii.{IsAscii-from_all}
 use Rattle.cd_world.specs.declared.event.Event.{Event}
 use Rattle.cd_world.specs.declared.world.WorldError.{WorldError}
 use Rattle.cd_world.specs.declared.world.WorldError.TheVariants.{Failed, NoMemory}
 use Rattle.cd_world.specs.Files.{Files}
-use Rattle.cd_meaning.specs.Stream.{Value, Ending, Done}
+use Rattle.cd_meaning.specs.Stream.{Value, Done}
 use Rattle.cd_meaning.specs.Words.{Mark, AtEnd}
 use Rattle.cd_meaning.specs.TakeForm.{front_ending, ending_of, whole_file}
 use Rattle.cd_meaning.proofs.TakeForm.{form_ending, form_puts, bytes_put-is}
 use Rattle.cd_cli.specs.declared.cause.Cause.{Cause}
 use Rattle.cd_cli.specs.declared.cause.Cause.TheVariants.{Success, NotBuilt, OutsideFault, NoMemory as WithoutMemory}
-use Rattle.cd_cli.specs.Cause.{cause_of}
-use Rattle.cd_cli.specs.Command.{IsRun, NoForm, IsRefusal, Runs, not_of_form, of_form, Judges, LogsJudging, ReadsAndJudges, unread, read, Calls, other_words, run_words, Called, Puts, Sends, SendsScript, Answers, Sent}
+use Rattle.cd_world.specs.Causes.{Rose}
+use Rattle.cd_cli.specs.Cause.{cause_of, HasOrigin}
+use Rattle.cd_cli.specs.Command.{IsRun, NoForm, IsRefusal, Runs, not_of_form, of_form, LogsJudging, ReadsAndJudges, unread, read, Calls, other_words, run_words, Called, Puts, Sends, SendsScript, Answers, Sent}
 use Rattle.cd_cli.specs.Form.{is_name_byte, IsForm, form_text}
 use Rattle.cd_cli.specs.Script.{ReadsWhole, ReadsFront, LogsRead}
 use Rattle.cd_cli.specs.Seen.{seen_of}
-use Rattle.cd_cli.specs.Take.{HasEnough, Takes, LogsTake}
+use Rattle.cd_cli.specs.Take.{Takes, LogsTake}
 
 -- a text of the form is ASCII
 
@@ -47,6 +48,36 @@ form_utf8 text name count form = IsUtf8-from_ascii text (elim form.text_is [
   | inl is ↦ subst IsAscii (sym is) (form_text_ascii name count form.is_name.bytes form.within)
   | inr is ↦ subst IsAscii (sym is) (IsAscii-append (form_text name count) (10 ∷ []) (form_text_ascii name count form.is_name.bytes form.within) (literal_ascii (10 ∷ []) refl))
 ])
+
+-- and shorter than what is read of a script
+form_short : (text name : List ℕ) (count : ℕ) → IsForm text name count → length text < 256
+form_short text name count form =
+    let digits : length (decimal count) ≤ 5 = length-decimal-le 5 count (omega arith) (omega (arith, form.within)) (omega (arith, form.within)) in
+    let lead : length (codes "run sourceFile \"" ++ name) ≡ 16 + length name = length-append (codes "run sourceFile \"") name in
+    let taking : length (codes "run sourceFile \"" ++ name ++ codes "\" | takeE ") ≡ 26 + length name = omega (arith, length-append (codes "run sourceFile \"" ++ name) (codes "\" | takeE "), lead) in
+    let counted : length (codes "run sourceFile \"" ++ name ++ codes "\" | takeE " ++ decimal count) ≡ 26 + length name + length (decimal count) =
+    omega (arith, length-append (codes "run sourceFile \"" ++ name ++ codes "\" | takeE ") (decimal count), taking) in
+    let line : length (form_text name count) ≡ 36 + length name + length (decimal count) =
+    omega (arith, length-append (codes "run sourceFile \"" ++ name ++ codes "\" | takeE " ++ decimal count) (codes " | stdout;"), counted) in
+    elim form.text_is [
+      | inl is ↦ omega (arith, ap length is, line, digits, form.is_name.short)
+      | inr is ↦ omega (arith, ap length is, length-append (form_text name count) (10 ∷ []), line, digits, form.is_name.short)
+    ]
+
+form_of_front : (text name : List ℕ) (count : ℕ) → IsForm (take 256 text) name count → IsForm text name count
+form_of_front text name count form =
+    let short : length text ≤ 256 = omega (arith, form_short (take 256 text) name count form, length-take 256 text) in
+    subst (λ (t : List ℕ). IsForm t name count) (take_all 256 text short) form
+
+front_of_form : (text name : List ℕ) (count : ℕ) → IsForm text name count → IsForm (take 256 text) name count
+front_of_form text name count form =
+    let short : length text ≤ 256 = omega (arith, form_short text name count form) in
+    subst (λ (t : List ℕ). IsForm t name count) (sym (take_all 256 text short)) form
+
+-- what is judged is the whole text, for a longer one is of the form no more than its front is
+judged_whole : (contents : List ℕ → List ℕ) (text : List ℕ) (cause : Cause) (sent : List ℕ) → Sends contents (take 256 text) cause sent → Sends contents text cause sent
+judged_whole contents text cause sent (not_of_form none is) = not_of_form (λ name count form. none name count (front_of_form text name count form)) is
+judged_whole contents text cause sent (of_form name count bytes form is_built puts) = of_form name count bytes (form_of_front text name count form) is_built puts
 
 -- the meaning of a run
 
@@ -133,7 +164,7 @@ module _ (script : List ℕ) where
       sent = sends.sent;
       output = sends.output ∙ ap (λ (o : List ℕ). o ++ sends.sent) reads.output;
       contents = sends.contents ∙ reads.contents;
-      answer = read sends.sent (subst (λ (b : List ℕ). Sends f.contents b cause sends.sent) (is ∙ sym reads.front) (subst (λ (c : List ℕ → List ℕ). Sends c text cause sends.sent) reads.contents sends.answer));
+      answer = read sends.sent (judged_whole f.contents (f.contents script) cause sends.sent (subst (λ (b : List ℕ). Sends f.contents b cause sends.sent) (is ∙ sym reads.front) (subst (λ (c : List ℕ → List ℕ). Sends c text cause sends.sent) reads.contents sends.answer)));
     }
 
     pub script_logs : (l l1 l2 : List Event) → LogsRead {E = WorldError} script 256 items (Ok t) l l1 → LogsJudging text cause l1 l2 → Called (ReadsAndJudges script cause) l l2
@@ -161,7 +192,31 @@ module _ (script : List ℕ) where
       answer = unread reads.part reads.tries (refusal_of e);
     }
 
+-- with a script of the form and no failed call
+module _ (before now : ℕ) (cause : Cause) (origin : HasOrigin before now cause) (quiet : Rose before now → ⊥) where
+  refused_completes : IsRefusal cause → (cause ≡ Success) ⊎ (cause ≡ WithoutMemory)
+  refused_completes (inl fault) = absurd (quiet (origin.fault fault))
+  refused_completes (inr none) = inr none
+
+  built_completes : (c : Cause) → cause ≡ c → cause ≢ NotBuilt → (cause ≡ Success) ⊎ (cause ≡ WithoutMemory)
+  built_completes Success is is_built = inl is
+  built_completes OutsideFault is is_built = absurd (quiet (origin.fault is))
+  built_completes WithoutMemory is is_built = inr is
+  built_completes NotBuilt is is_built = absurd (is_built is)
+
+  judged_completes : (contents : List ℕ → List ℕ) (text name : List ℕ) (count : ℕ) (sent : List ℕ) → IsForm text name count → Sends contents text cause sent → (cause ≡ Success) ⊎ (cause ≡ WithoutMemory)
+  judged_completes contents text name count sent form (not_of_form none is) = absurd (none name count form)
+  judged_completes contents text name count sent form (of_form name' count' bytes form' is_built puts) = built_completes cause refl is_built
+
+  pub script_completes : (contents : List ℕ → List ℕ) (script name : List ℕ) (count : ℕ) (sent : List ℕ) → IsForm (contents script) name count → SendsScript contents script cause sent → (cause ≡ Success) ⊎ (cause ≡ WithoutMemory)
+  script_completes contents script name count sent form (unread refused) = refused_completes refused
+  script_completes contents script name count sent form (read bytes judged) = judged_completes contents (contents script) name count bytes form judged
+
 -- the words
+
+-- they name one script
+pub same_script : (words : List (List ℕ)) (a b : List ℕ) → IsRun words a → IsRun words b → a ≡ b
+same_script words a b first second = ap (λ (ws : List (List ℕ)). get_or ws 1 []) (sym first.words_are ∙ second.words_are)
 
 module _ (words : List (List ℕ)) where
   pub words_sends : (script : List ℕ) (cause : Cause) (f f' : Files) → IsRun words script → Sent (SendsScript f.contents script cause) f f' → Sent (Answers words f.contents cause) f f'

@@ -12,7 +12,7 @@ use Rattle.cd_world.specs.declared.event.Event.TheVariants.{OpenedRead, Created,
 use Rattle.cd_world.specs.declared.world.WorldError.{WorldError}
 use Rattle.cd_world.specs.declared.world.WorldError.TheVariants.{Failed, NoMemory}
 use Rattle.cd_world.specs.Events.{gave, given_by, bytes_given, written_by, written_to, IsWriteOn}
-use Rattle.cd_world.specs.Files.{Files, left_at, with_given, with_output, ReadsFile}
+use Rattle.cd_world.specs.Files.{Files, left_at, with_output, ReadsFile}
 use Rattle.cd_meaning.specs.Words.{Mark, AtEnd, MayGoOn, Broken}
 use Rattle.cd_cli.specs.Seen.{mark_of}
 use Rattle.cd_cli.specs.Take.{Passing, IsMove, LogsFront, HasEnough, LogsPass}

@@ -18,7 +18,7 @@ use Rattle.cd_world.specs.declared.world.CloseFailed.{CloseFailed}
 use Rattle.cd_world.specs.Events.{opened, closed, gave, given_by, bytes_given, IsCloseOf}
 use Rattle.cd_world.specs.Live.{open_as}
 use Rattle.cd_world.specs.Files.{Files, left_at, with_given, after_open, ReadsFile, ClosesFile}
-use Rattle.cd_cli.specs.Script.{Fills, IsGaveOn, Reads, IsWhole, LogsFill, ReadsWhole, TriesRead, none_called, open_failed, opened_closed, ReadsFront, LogsRead}
+use Rattle.cd_cli.specs.Script.{Fills, IsGaveOn, Reads, LogsFill, ReadsWhole, none_called, open_failed, opened_closed, ReadsFront, LogsRead}
 use Rattle.cd_cli.specs.Cause.{answer_of}
 use Rattle.cd_cli.proofs.Fronts.{take-given, left_after_read}
 use Rattle.cd_cli.proofs.WriteSteps.{nothing_more}

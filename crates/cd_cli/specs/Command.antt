@@ -1,6 +1,7 @@
 -- What the command does: it reads a script, and runs it where it is of the form.
-use Rattle.std.specs.Prelude.{◌≡◌, ◌≢◌, ◌⊎◌, ℕ, List, [], ◌∷◌, ◌++◌, codes, take}
+use Rattle.std.specs.Prelude.{◌≡◌, ◌≢◌, ◌⊎◌, ℕ, List, [], ◌∷◌, ◌++◌, codes}
 use Rattle.cd_world.specs.declared.event.Event.{Event}
+use Rattle.cd_world.specs.Causes.{Rose}
 use Rattle.cd_world.specs.Events.{written_to}
 use Rattle.cd_world.specs.Files.{Files}
 use Rattle.cd_meaning.specs.Stream.{Value, Done}
@@ -80,10 +81,10 @@ pub data Sends (contents : List ℕ → List ℕ) (text : List ℕ) (cause : Cau
   not_of_form : NoForm text → cause ≡ NotBuilt → Sends contents text cause []
   of_form : (name : List ℕ) (count : ℕ) (sent : List ℕ) → IsForm text name count → cause ≢ NotBuilt → Puts (contents name) count cause sent → Sends contents text cause sent
 
--- The text that is judged is the script file's, up to 256 bytes.
+-- The text that is judged is the script file's.
 pub data SendsScript (contents : List ℕ → List ℕ) (script : List ℕ) (cause : Cause) : List ℕ → Type 0 where
   unread : IsRefusal cause → SendsScript contents script cause []
-  read : (sent : List ℕ) → Sends contents (take 256 (contents script)) cause sent → SendsScript contents script cause sent
+  read : (sent : List ℕ) → Sends contents (contents script) cause sent → SendsScript contents script cause sent
 
 -- The words are judged, and nothing is sent for words that name no script.
 pub data Answers (words : List (List ℕ)) (contents : List ℕ → List ℕ) (cause : Cause) : List ℕ → Type 0 where
@@ -96,3 +97,8 @@ pub record Sent (Answer : List ℕ → Type 0) (f f' : Files) : Type 0 where
   pub output : f'.output ≡ f.output ++ sent
   pub contents : f'.contents ≡ f.contents
   pub answer : Answer sent
+
+-- With the words of a run, a script of the form and no failed call, the script runs to its end, or there is no memory.
+abbrev pub Completes : List (List ℕ) → (List ℕ → List ℕ) → ℕ → ℕ → Cause → Type 0
+Completes words contents before now cause =
+    (script name : List ℕ) (count : ℕ) → IsRun words script → IsForm (contents script) name count → (Rose before now → ⊥) → (cause ≡ Success) ⊎ (cause ≡ NoMemory)

@@ -1,10 +1,8 @@
 // The command, from its words on.
-ghost use Rattle.std.specs.Prelude.{◌≡◌, ◌⊎◌, ℕ, List, IfSome, IfNone, IsTrue, map, take};
+ghost use Rattle.std.specs.Prelude.{◌≡◌, List, ℕ, IfSome, IfNone, IsTrue, map};
 ghost use Rattle.std.specs.String.{string_bytes};
-ghost use Rattle.cd_world.specs.Causes.{Rose};
 ghost use Rattle.cd_cli.specs.Cause.{HasOrigin, status_of};
-ghost use Rattle.cd_cli.specs.Command.{IsRun, Called, Sent, Calls, Answers, ReadsAndJudges, SendsScript, LogsJudging, Sends};
-ghost use Rattle.cd_cli.specs.Form.{IsForm};
+ghost use Rattle.cd_cli.specs.Command.{IsRun, LogsJudging, ReadsAndJudges, Calls, Called, Sends, SendsScript, Answers, Sent, Completes};
 
 use crate::cause::{Cause, Outcome};
 use crate::form::{Form, form_of};
@@ -23,6 +21,8 @@ pub fn conduit_main<W: World>(alloc: Global, words: &[String], world: &mut W) ->
     ensures origin { HasOrigin (W.faults world.old) (W.faults world.new) result.cause }
     ensures live { W.live world.new ≡ W.live world.old }
     ensures files { IsTrue W.tells_files → Sent (Answers (map string_bytes words.now) (W.files world.old).contents result.cause) (W.files world.old) (W.files world.new) }
+    ensures complete { IsTrue W.tells_files
+        → Completes (map string_bytes words.now) (W.files world.old).contents (W.faults world.old) (W.faults world.new) result.cause }
     ensures log { IsTrue W.tells_log → Called (Calls (map string_bytes words.now) result.cause) (W.log world.old) (W.log world.new) }
 {
     let cause = match script_name(words) {

@@ -1,4 +1,3 @@
-use Rattle.std.proofs.Common.{List}
 use Rattle.std.proofs.lemmas.Result.{IfOk-from_err}
 use Rattle.cd_cli.proofs.ScriptSteps.{log_front_none}
 use Rattle.cd_cli.proofs.script.read_script.Goals as goal
