@@ -20,7 +20,7 @@ use Rattle.cd_cli.specs.declared.cause.Cause.{Cause}
 use Rattle.cd_cli.specs.declared.cause.Cause.TheVariants.{Success, NotBuilt, OutsideFault, NoMemory as WithoutMemory}
 use Rattle.cd_world.specs.Causes.{Rose}
 use Rattle.cd_cli.specs.Cause.{cause_of, HasOrigin}
-use Rattle.cd_cli.specs.Command.{IsRun, NoForm, IsRefusal, Runs, not_of_form, of_form, LogsJudging, ReadsAndJudges, unread, read, Calls, other_words, run_words, Called, Puts, Sends, SendsScript, Answers, Sent}
+use Rattle.cd_cli.specs.Command.{NamesScript, NoForm, IsRefusal, Runs, not_of_form, of_form, LogsJudging, ReadsAndJudges, unread, read, Calls, other_words, run_words, Called, Puts, Sends, SendsScript, Answers, Sent}
 use Rattle.cd_cli.specs.Form.{is_name_byte, IsForm, form_text}
 use Rattle.cd_cli.specs.Script.{ReadsWhole, ReadsFront, LogsRead}
 use Rattle.cd_cli.specs.Seen.{seen_of}
@@ -215,17 +215,17 @@ module _ (before now : ℕ) (cause : Cause) (origin : HasOrigin before now cause
 -- the words
 
 -- they name one script
-pub same_script : (words : List (List ℕ)) (a b : List ℕ) → IsRun words a → IsRun words b → a ≡ b
+pub same_script : (words : List (List ℕ)) (a b : List ℕ) → NamesScript words a → NamesScript words b → a ≡ b
 same_script words a b first second = ap (λ (ws : List (List ℕ)). get_or ws 1 []) (sym first.words_are ∙ second.words_are)
 
 module _ (words : List (List ℕ)) where
-  pub words_sends : (script : List ℕ) (cause : Cause) (f f' : Files) → IsRun words script → Sent (SendsScript f.contents script cause) f f' → Sent (Answers words f.contents cause) f f'
+  pub words_sends : (script : List ℕ) (cause : Cause) (f f' : Files) → NamesScript words script → Sent (SendsScript f.contents script cause) f f' → Sent (Answers words f.contents cause) f f'
   words_sends script cause f f' is sends = record { sent = sends.sent; output = sends.output; contents = sends.contents; answer = run_words script sends.sent is sends.answer }
 
-  pub words_logs : (script : List ℕ) (cause : Cause) (l l' : List Event) → IsRun words script → Called (ReadsAndJudges script cause) l l' → Called (Calls words cause) l l'
+  pub words_logs : (script : List ℕ) (cause : Cause) (l l' : List Event) → NamesScript words script → Called (ReadsAndJudges script cause) l l' → Called (Calls words cause) l l'
   words_logs script cause l l' is called = record { reading = called.reading; calls = called.calls; log = called.log; answer = run_words script called.reading called.calls is called.answer }
 
-  module _ (none : (script : List ℕ) → IsRun words script → ⊥) where
+  module _ (none : (script : List ℕ) → NamesScript words script → ⊥) where
     pub others_send : (f : Files) → Sent (Answers words f.contents NotBuilt) f f
     others_send f = record { sent = []; output = sym (append-nil f.output); contents = refl; answer = other_words none refl }
 

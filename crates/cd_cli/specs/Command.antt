@@ -15,7 +15,7 @@ use Rattle.cd_cli.specs.Seen.{seen_of}
 use Rattle.cd_cli.specs.Take.{OpensAndCloses}
 
 -- the words `run SCRIPT`
-pub record IsRun (words : List (List ℕ)) (script : List ℕ) : Type 0 where
+pub record NamesScript (words : List (List ℕ)) (script : List ℕ) : Type 0 where
   pub words_are : words ≡ codes "run" ∷ script ∷ []
   pub some : script ≢ []
 
@@ -56,8 +56,8 @@ pub data ReadsAndJudges (script : List ℕ) (cause : Cause) : List Event → Lis
 
 -- The words are judged, and nothing is called for words that name no script.
 pub data Calls (words : List (List ℕ)) (cause : Cause) : List Event → List Event → Type 0 where
-  other_words : ((script : List ℕ) → IsRun words script → ⊥) → cause ≡ NotBuilt → Calls words cause [] []
-  run_words : (script : List ℕ) (reading calls : List Event) → IsRun words script → ReadsAndJudges script cause reading calls → Calls words cause reading calls
+  other_words : ((script : List ℕ) → NamesScript words script → ⊥) → cause ≡ NotBuilt → Calls words cause [] []
+  run_words : (script : List ℕ) (reading calls : List Event) → NamesScript words script → ReadsAndJudges script cause reading calls → Calls words cause reading calls
 
 -- What was called in all: first these calls, then those.
 pub record Called (Answer : List Event → List Event → Type 0) (l l' : List Event) : Type 0 where
@@ -88,8 +88,8 @@ pub data SendsScript (contents : List ℕ → List ℕ) (script : List ℕ) (cau
 
 -- The words are judged, and nothing is sent for words that name no script.
 pub data Answers (words : List (List ℕ)) (contents : List ℕ → List ℕ) (cause : Cause) : List ℕ → Type 0 where
-  other_words : ((script : List ℕ) → IsRun words script → ⊥) → cause ≡ NotBuilt → Answers words contents cause []
-  run_words : (script sent : List ℕ) → IsRun words script → SendsScript contents script cause sent → Answers words contents cause sent
+  other_words : ((script : List ℕ) → NamesScript words script → ⊥) → cause ≡ NotBuilt → Answers words contents cause []
+  run_words : (script sent : List ℕ) → NamesScript words script → SendsScript contents script cause sent → Answers words contents cause sent
 
 -- What was sent in all, by the answer to a text, to a script, and to the words. No file is changed.
 pub record Sent (Answer : List ℕ → Type 0) (f f' : Files) : Type 0 where
@@ -101,4 +101,4 @@ pub record Sent (Answer : List ℕ → Type 0) (f f' : Files) : Type 0 where
 -- With the words of a run, a script of the form and no failed call, the script runs to its end, or there is no memory.
 abbrev pub Completes : List (List ℕ) → (List ℕ → List ℕ) → ℕ → ℕ → Cause → Type 0
 Completes words contents before now cause =
-    (script name : List ℕ) (count : ℕ) → IsRun words script → IsForm (contents script) name count → (Rose before now → ⊥) → (cause ≡ Success) ⊎ (cause ≡ NoMemory)
+    (script name : List ℕ) (count : ℕ) → NamesScript words script → IsForm (contents script) name count → (Rose before now → ⊥) → (cause ≡ Success) ⊎ (cause ≡ NoMemory)

@@ -2,7 +2,7 @@
 ghost use Rattle.std.specs.Prelude.{◌≡◌, List, ℕ, IfSome, IfNone, IsTrue, map};
 ghost use Rattle.std.specs.String.{string_bytes};
 ghost use Rattle.cd_cli.specs.Cause.{HasOrigin, status_of};
-ghost use Rattle.cd_cli.specs.Command.{IsRun, LogsJudging, ReadsAndJudges, Calls, Called, Sends, SendsScript, Answers, Sent, Completes};
+ghost use Rattle.cd_cli.specs.Command.{NamesScript, LogsJudging, ReadsAndJudges, Calls, Called, Sends, SendsScript, Answers, Sent, Completes};
 
 use crate::cause::{Cause, Outcome};
 use crate::form::{Form, form_of};
@@ -37,8 +37,8 @@ pub fn conduit_main<W: World>(alloc: Global, words: &[String], world: &mut W) ->
 
 /// The script that the words `run SCRIPT` name, and None for other words.
 fn script_name(words: &[String]) -> Option<&str>
-    ensures named { IfSome result (λ script. IsRun (map string_bytes words.now) script.now) }
-    ensures none { IfNone result ((script : List ℕ) → IsRun (map string_bytes words.now) script → ⊥) }
+    ensures named { IfSome result (λ script. NamesScript (map string_bytes words.now) script.now) }
+    ensures none { IfNone result ((script : List ℕ) → NamesScript (map string_bytes words.now) script → ⊥) }
 {
     match words {
         [command, script] if command.as_str() == "run" && !script.is_empty() => {
