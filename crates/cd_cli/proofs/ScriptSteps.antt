@@ -83,7 +83,7 @@ module _ (d : ℕ) (name : List ℕ) (filled k : ℕ) (buffer into : List ℕ) (
         ∙ ap (λ (b : List ℕ). take filled buffer ++ b) (take-given (length buffer - filled) count count into (drop count (left_at d name f1)) (omega arith) least)
         ∙ sym (append_assoc (take filled buffer) (take count into) (take (length buffer - filled - count) (drop count (left_at d name f1))))
         ∙ (λ i. sym (filled_is filled k count buffer into fits k_is size within) i
-            ++ take (rest i) ((sym (left_after_read d name count f1) ∙ ap (λ (f : Files). left_at d name f) (sym read.1)) i));
+        ++ take (rest i) ((sym (left_after_read d name count f1) ∙ ap (λ (f : Files). left_at d name f) (sym read.1)) i));
   }
 
   -- a read that told the end

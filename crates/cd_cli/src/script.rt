@@ -14,11 +14,7 @@ const SCRIPT_SIZE: usize = 256;
 
 /// Fills the front of a buffer with what is left of a file, up to the size of the buffer, and says how many bytes
 /// those are.
-fn fill<W: World>(
-    world: &mut W,
-    from: Descriptor,
-    buffer: &mut [u8],
-) -> Result<usize, WorldError>
+fn fill<W: World>(world: &mut W, from: Descriptor, buffer: &mut [u8]) -> Result<usize, WorldError>
     requires readable { IsLive Reading from (W.live world.old) }
     ensures within { IfOk result (λ filled. filled ≤ length buffer.old) }
     ensures cause { HasCause (W.faults world.old) (W.faults world.new) result }
@@ -39,11 +35,7 @@ fn fill<W: World>(
 }
 
 /// Opens a file, fills the front of a buffer with it, and closes it.
-fn read_front<W: World>(
-    world: &mut W,
-    name: &str,
-    buffer: &mut [u8],
-) -> Result<usize, WorldError>
+fn read_front<W: World>(world: &mut W, name: &str, buffer: &mut [u8]) -> Result<usize, WorldError>
     ensures within { IfOk result (λ filled. filled ≤ length buffer.old) }
     ensures cause { HasCause (W.faults world.old) (W.faults world.new) result }
     ensures live { W.live world.new ≡ W.live world.old }
