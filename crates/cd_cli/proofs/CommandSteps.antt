@@ -167,7 +167,7 @@ module _ (script : List ℕ) where
       answer = read sends.sent (judged_whole f.contents (f.contents script) cause sends.sent (subst (λ (b : List ℕ). Sends f.contents b cause sends.sent) (is ∙ sym reads.front) (subst (λ (c : List ℕ → List ℕ). Sends c text cause sends.sent) reads.contents sends.answer)));
     }
 
-    pub script_logs : (l l1 l2 : List Event) → LogsRead {E = WorldError} script 256 items (Ok t) l l1 → LogsJudging text cause l1 l2 → Called (ReadsAndJudges script cause) l l2
+    pub script_logs : (l l1 l2 : List Event) → LogsRead script 256 items (Ok t) l l1 → LogsJudging text cause l1 l2 → Called (ReadsAndJudges script cause) l l2
     script_logs l l1 l2 reads judged = record {
       reading = reads.part;
       calls = judged.calls;
@@ -189,7 +189,7 @@ module _ (script : List ℕ) where
       reading = reads.part;
       calls = [];
       log = reads.log ∙ ap (λ (p : List Event). l ++ p) (sym (append-nil reads.part));
-      answer = unread reads.part reads.tries (refusal_of e);
+      answer = unread e reads.part reads.tries refl;
     }
 
 -- with a script of the form and no failed call

@@ -1,6 +1,7 @@
 -- How the reads that fill a buffer go on.
 use Rattle.std.proofs.Common.{◌≡◌, ◌≢◌, ◌⊎◌, inl, inr, ℕ, ◌+◌, ◌-◌, ◌≤◌, min, length, length-take, length-drop, List, [], ◌∷◌, ◌++◌, take, drop, Result, Ok, Err, refl, sym, ◌∙◌, ap, subst, arith, append_assoc, Bool, if◌then◌else◌, ◌==◌, true}
-use Rattle.std.specs.Prelude.{All, IfOk, OnErr}
+use Rattle.std.specs.Prelude.{All, IfOk, IfErr}
+use Rattle.std.specs.Result.{IsErrAnd}
 use Rattle.std.proofs.lemmas.List.{append-nil, take-take}
 use Rattle.std.proofs.lemmas.Slice.{take-put_mid, take-put_mid_below}
 use borrow.Rule.Slice.PartMut.{put_mid, same_len_mid}
@@ -15,10 +16,10 @@ use Rattle.cd_world.specs.declared.event.Use.TheVariants.{Reading}
 use Rattle.cd_world.specs.declared.world.WorldError.{WorldError}
 use Rattle.cd_world.specs.declared.world.WorldError.TheVariants.{Failed, NoMemory}
 use Rattle.cd_world.specs.declared.world.CloseFailed.{CloseFailed}
-use Rattle.cd_world.specs.Events.{opened, closed, gave, given_by, bytes_given, IsCloseOf}
+use Rattle.cd_world.specs.Events.{opened, closed, gave, given_by, bytes_given}
 use Rattle.cd_world.specs.Live.{open_as}
 use Rattle.cd_world.specs.Files.{Files, left_at, with_given, after_open, ReadsFile, ClosesFile}
-use Rattle.cd_cli.specs.Script.{Fills, IsGaveOn, Reads, LogsFill, ReadsWhole, none_called, open_failed, opened_closed, ReadsFront, LogsRead}
+use Rattle.cd_cli.specs.Script.{StopsIn, ComesFrom, TriesRead, Fills, IsGaveOn, Reads, LogsFill, ReadsWhole, none_called, open_failed, opened_closed, ReadsFront, LogsRead}
 use Rattle.cd_cli.specs.Cause.{answer_of}
 use Rattle.cd_cli.proofs.Fronts.{take-given, left_after_read}
 use Rattle.cd_cli.proofs.WriteSteps.{nothing_more}
@@ -35,6 +36,11 @@ pub record LogsFilling (d : Descriptor) (filled : ℕ) (buffer : List ℕ) (l l'
   pub log : l' ≡ l ++ gives
   pub gave : All (IsGaveOn d) gives
   pub given : bytes_given gives ≡ take filled buffer
+
+-- what the exit of a `?` answers
+answered : {T : Type 0} (result : Result T WorldError) (e : WorldError) → IsErrAnd result (λ y. y ≡ e) → result ≡ Err e
+answered (Ok x) e is = absurd is
+answered (Err y) e is = ap Err is
 
 -- the buffer after a read behind its front
 
@@ -114,7 +120,7 @@ pub log_fill_none : (d : Descriptor) (buffer : List ℕ) (l : List Event) → Lo
 log_fill_none d buffer l = record { gives = []; log = sym (append-nil l); gave = nothing_more (IsGaveOn d); given = refl }
 
 -- the buffer is full
-pub log_fill_full : (d : Descriptor) (filled : ℕ) (buffer : List ℕ) (l l' : List Event) → LogsFilling d filled buffer l l' → filled ≡ length buffer → LogsFill {E = WorldError} d buffer (Ok filled) l l'
+pub log_fill_full : (d : Descriptor) (filled : ℕ) (buffer : List ℕ) (l l' : List Event) → LogsFilling d filled buffer l l' → filled ≡ length buffer → LogsFill d buffer (Ok filled) l l'
 log_fill_full d filled buffer l l' so_far full =
     let size : length (bytes_given so_far.gives) ≡ length buffer = ap length so_far.given ∙ length-take filled buffer ∙ omega arith in record {
       gives = so_far.gives;
@@ -122,6 +128,7 @@ log_fill_full d filled buffer l l' so_far full =
       log = so_far.log ∙ ap (λ (p : List Event). l ++ p) (sym (append-nil so_far.gives));
       reads = record { gave = so_far.gave; within = omega (arith, size); ending = inl refl };
       whole = (so_far.given, inr (refl, size));
+      stopped = tt;
     }
 
 module _ (d : Descriptor) (filled k : ℕ) (buffer into : List ℕ) (l l1 l2 : List Event) (so_far : LogsFilling d filled buffer l l1)
@@ -135,30 +142,36 @@ module _ (d : Descriptor) (filled k : ℕ) (buffer into : List ℕ) (l l1 l2 : L
   }
 
   -- a read that was refused
-  pub log_fill_refused : (result : Result ℕ WorldError) (e : WorldError) → ((P : ℕ → Type 0) → IfOk result P) → l2 ≡ l1 ++ gave d into (Err e) → LogsFill d (put_mid filled k buffer into) result l l2
-  log_fill_refused result Failed none log = record {
+  refused : (e : WorldError) → l2 ≡ l1 ++ gave d into (Err e) → LogsFill d (put_mid filled k buffer into) (Err e) l l2
+  refused Failed log = record {
     gives = so_far.gives;
     last = ReadFailed d ∷ [];
     log = log ∙ ap (λ (l : List Event). l ++ ReadFailed d ∷ []) so_far.log ∙ append_assoc l so_far.gives (ReadFailed d ∷ []);
     reads = stopped (ReadFailed d ∷ []) (inr (inr refl));
-    whole = none _;
+    whole = tt;
+    stopped = refl;
   }
-  log_fill_refused result NoMemory none log = record {
+  refused NoMemory log = record {
     gives = so_far.gives;
     last = [];
     log = log ∙ append-nil l1 ∙ so_far.log ∙ ap (λ (p : List Event). l ++ p) (sym (append-nil so_far.gives));
     reads = stopped [] (inl refl);
-    whole = none _;
+    whole = tt;
+    stopped = refl;
   }
 
+  pub log_fill_refused : (result : Result ℕ WorldError) (e : WorldError) → IsErrAnd result (λ y. y ≡ e) → l2 ≡ l1 ++ gave d into (Err e) → LogsFill d (put_mid filled k buffer into) result l l2
+  log_fill_refused result e is log = subst (λ (r : Result ℕ WorldError). LogsFill d (put_mid filled k buffer into) r l l2) (sym (answered result e is)) (refused e log)
+
   -- a read that told the end
-  pub log_fill_end : (count : ℕ) → count ≡ 0 → l2 ≡ l1 ++ gave d into (Ok count) → LogsFill {E = WorldError} d (put_mid filled k buffer into) (Ok filled) l l2
+  pub log_fill_end : (count : ℕ) → count ≡ 0 → l2 ≡ l1 ++ gave d into (Ok count) → LogsFill d (put_mid filled k buffer into) (Ok filled) l l2
   log_fill_end count zero log = record {
     gives = so_far.gives;
     last = GaveEnd d ∷ [];
     log = subst (λ (m : ℕ). l2 ≡ l1 ++ gave d into (Ok m)) zero log ∙ ap (λ (l : List Event). l ++ GaveEnd d ∷ []) so_far.log ∙ append_assoc l so_far.gives (GaveEnd d ∷ []);
     reads = stopped (GaveEnd d ∷ []) (inr (inl refl));
     whole = (so_far.given ∙ sym (front_is filled k 0 buffer into fits k_is size (omega arith)), inl refl);
+    stopped = tt;
   }
 
   -- a read that gave bytes
@@ -178,10 +191,6 @@ kept_if : {T U : Type 0} (answer : Result T WorldError) (closing : Result U Clos
 kept_if (Ok done) (Ok shut) P p = p
 kept_if (Ok done) (Err failed) P p = tt
 kept_if (Err error) closing P p = tt
-
-tried : {T : Type 0} (result : Result T WorldError) {P : Type 0} → P → OnErr result P
-tried (Ok done) p = tt
-tried (Err error) p = p
 
 module _ (name : List ℕ) (size : ℕ) (f : Files) where
   -- nothing was read
@@ -216,29 +225,39 @@ module _ (name buffer : List ℕ) (d : Descriptor) (f f1 f2 f3 : Files) (answer 
 
 module _ {T : Type 0} (name : List ℕ) (size : ℕ) (text : T → List ℕ) (l : List Event) where
   -- nothing was called
-  pub log_front_none : (result : Result T WorldError) → ((P : T → Type 0) → IfOk result P) → LogsRead name size text result l l
-  log_front_none result none = record { part = []; log = sym (append-nil l); whole = none _; tries = tried result none_called }
+  pub log_front_none : (result : Result T WorldError) → IsErrAnd result (λ y. y ≡ NoMemory) → LogsRead name size text result l l
+  log_front_none result is = subst (λ (r : Result T WorldError). LogsRead name size text r l l) (sym (answered result NoMemory is))
+      (record { part = []; log = sym (append-nil l); whole = tt; tries = none_called })
 
   -- the open was refused
-  pub log_front_refused : (result : Result T WorldError) (l' : List Event) (e : WorldError) → ((P : T → Type 0) → IfOk result P) → l' ≡ l ++ opened Reading name (Err e) → LogsRead name size text result l l'
-  log_front_refused result l' Failed none log = record { part = OpenFailed name ∷ []; log = log; whole = none _; tries = tried result open_failed }
-  log_front_refused result l' NoMemory none log = record { part = []; log = log; whole = none _; tries = tried result none_called }
+  not_opened : (l' : List Event) (e : WorldError) → l' ≡ l ++ opened Reading name (Err e) → LogsRead name size text (Err e) l l'
+  not_opened l' Failed log = record { part = OpenFailed name ∷ []; log = log; whole = tt; tries = open_failed }
+  not_opened l' NoMemory log = record { part = []; log = log; whole = tt; tries = none_called }
+
+  pub log_front_refused : (result : Result T WorldError) (l' : List Event) (e : WorldError) → IsErrAnd result (λ y. y ≡ e) → l' ≡ l ++ opened Reading name (Err e) → LogsRead name size text result l l'
+  log_front_refused result l' e is log = subst (λ (r : Result T WorldError). LogsRead name size text r l l') (sym (answered result e is)) (not_opened l' e log)
+
+-- the last call of a fill that was refused
+stops_from : (d : Descriptor) (last : List Event) (end : Event) (e : WorldError) → StopsIn d last e → ComesFrom d last end e
+stops_from d last end Failed stops = inl stops
+stops_from d last end NoMemory stops = stops
 
 module _ (name buffer : List ℕ) (d : Descriptor) (l l1 l2 l3 : List Event) (opens : l1 ≡ l ++ opened Reading name (Ok d)) where
-  log_front_end : (answer result : Result ℕ WorldError) (fills : LogsFill d buffer answer l1 l2) (end : Event) → IsCloseOf d end → l3 ≡ l2 ++ end ∷ []
+  log_front_end : (answer result : Result ℕ WorldError) (fills : LogsFill d buffer answer l1 l2) (end : Event) → l3 ≡ l2 ++ end ∷ []
       → IfOk result (λ n. ReadsWhole name (length buffer) (take n buffer) (OpenedRead name d ∷ (fills.gives ++ fills.last) ++ end ∷ []))
+      → IfErr result (λ e. TriesRead name (length buffer) e (OpenedRead name d ∷ (fills.gives ++ fills.last) ++ end ∷ []))
       → LogsRead name (length buffer) (λ n. take n buffer) result l l3
-  log_front_end answer result fills end is_close log whole = record {
+  log_front_end answer result fills end log whole tries = record {
     part = OpenedRead name d ∷ (fills.gives ++ fills.last) ++ end ∷ [];
     log = log ∙ ap (λ (l : List Event). l ++ end ∷ []) (fills.log ∙ ap (λ (l : List Event). l ++ (fills.gives ++ fills.last)) opens ∙ append_assoc l (OpenedRead name d ∷ []) (fills.gives ++ fills.last))
         ∙ append_assoc l (OpenedRead name d ∷ (fills.gives ++ fills.last)) (end ∷ []);
     whole = whole;
-    tries = tried result (opened_closed d fills.gives fills.last end fills.reads is_close);
+    tries = tries;
   }
 
   pub log_front_closed : {U : Type 0} (answer : Result ℕ WorldError) (closing : Result U CloseFailed) → LogsFill d buffer answer l1 l2 → l3 ≡ l2 ++ closed d closing
       → LogsRead name (length buffer) (λ n. take n buffer) (answer_of answer closing) l l3
-  log_front_closed (Ok n) (Ok shut) fills log = log_front_end (Ok n) (Ok n) fills (Closed d) refl log (record {
+  log_front_closed (Ok n) (Ok shut) fills log = log_front_end (Ok n) (Ok n) fills (Closed d) log (record {
     d = d;
     gives = fills.gives;
     last = fills.last;
@@ -246,7 +265,9 @@ module _ (name buffer : List ℕ) (d : Descriptor) (l l1 l2 l3 : List Event) (op
     reads = fills.reads;
     whole = fills.whole.1;
     text_is = sym fills.whole.0;
-  })
-  log_front_closed (Ok n) (Err failed) fills log = log_front_end (Ok n) (Err Failed) fills (CloseFailing d) refl log tt
-  log_front_closed (Err e) (Ok shut) fills log = log_front_end (Err e) (Err e) fills (Closed d) refl log tt
-  log_front_closed (Err e) (Err failed) fills log = log_front_end (Err e) (Err e) fills (CloseFailing d) refl log tt
+  }) tt
+  log_front_closed (Ok n) (Err failed) fills log = log_front_end (Ok n) (Err Failed) fills (CloseFailing d) log tt (opened_closed Failed d fills.gives fills.last (CloseFailing d) fills.reads refl (inr refl))
+  log_front_closed (Err e) (Ok shut) fills log = log_front_end (Err e) (Err e) fills (Closed d) log tt
+      (opened_closed e d fills.gives fills.last (Closed d) fills.reads refl (stops_from d fills.last (Closed d) e fills.stopped))
+  log_front_closed (Err e) (Err failed) fills log = log_front_end (Err e) (Err e) fills (CloseFailing d) log tt
+      (opened_closed e d fills.gives fills.last (CloseFailing d) fills.reads refl (stops_from d fills.last (CloseFailing d) e fills.stopped))

@@ -1,6 +1,7 @@
 -- What the command does: it reads a script, and runs it where it is of the form.
 use Rattle.std.specs.Prelude.{◌≡◌, ◌≢◌, ◌⊎◌, ℕ, List, [], ◌∷◌, ◌++◌, codes}
 use Rattle.cd_world.specs.declared.event.Event.{Event}
+use Rattle.cd_world.specs.declared.world.WorldError.{WorldError}
 use Rattle.cd_world.specs.Causes.{Rose}
 use Rattle.cd_world.specs.Events.{written_to}
 use Rattle.cd_world.specs.Files.{Files}
@@ -9,6 +10,7 @@ use Rattle.cd_meaning.specs.Run.{effects, ending}
 use Rattle.cd_meaning.specs.TakeForm.{form_run, puts_of, whole_file, bytes_put}
 use Rattle.cd_cli.specs.declared.cause.Cause.{Cause}
 use Rattle.cd_cli.specs.declared.cause.Cause.TheVariants.{Success, NotBuilt, OutsideFault, NoMemory}
+use Rattle.cd_cli.specs.Cause.{cause_of}
 use Rattle.cd_cli.specs.Form.{IsForm}
 use Rattle.cd_cli.specs.Script.{ReadsWhole, TriesRead}
 use Rattle.cd_cli.specs.Seen.{seen_of}
@@ -51,7 +53,7 @@ pub record LogsJudging (text : List ℕ) (cause : Cause) (l l' : List Event) : T
 
 -- The first calls read the script, of which at most 256 bytes are read. The text that is judged is all that they gave, and the other calls run it.
 pub data ReadsAndJudges (script : List ℕ) (cause : Cause) : List Event → List Event → Type 0 where
-  unread : (reading : List Event) → TriesRead script 256 reading → IsRefusal cause → ReadsAndJudges script cause reading []
+  unread : (error : WorldError) (reading : List Event) → TriesRead script 256 error reading → cause ≡ cause_of error → ReadsAndJudges script cause reading []
   read : (text : List ℕ) (reading calls : List Event) → ReadsWhole script 256 text reading → Judges text cause calls → ReadsAndJudges script cause reading calls
 
 -- The words are judged, and nothing is called for words that name no script.

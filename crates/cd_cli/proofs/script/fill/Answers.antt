@@ -24,7 +24,7 @@ returns-in_err-count-clause-files g c = λ tells name has.
 pub returns-in_err-count-clause-log : goal.returns-in_err-count-clause-log
 returns-in_err-count-clause-log g c = λ tells.
     log_fill_refused c.args.from c.loop-filled.filled _ c.loop-filled.buffer c.read.new.into _ _ _ (c.loop-filled.invariant.log tells)
-    c.loop-filled.invariant.within refl (omega arith) _ c.in_err-count.field-0.0 (λ P. IfOk-from_err _ _ c.from_residual.ensures.0) (c.in_err-count.ensures.log tells)
+    c.loop-filled.invariant.within refl (omega arith) _ c.in_err-count.field-0.0 c.from_residual.ensures.1 (c.in_err-count.ensures.log tells)
 
 pub loop-filled-preserved : goal.loop-filled-preserved
 loop-filled-preserved g c = record {

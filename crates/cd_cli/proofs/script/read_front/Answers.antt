@@ -13,7 +13,7 @@ returns-in_err-from-clause-files g c = λ tells. front_none c.args.name.now (len
 
 pub returns-in_err-from-clause-log : goal.returns-in_err-from-clause-log
 returns-in_err-from-clause-log g c = λ tells.
-    log_front_refused c.args.name.now (length c.args.buffer.now) _ _ _ _ c.in_err-from.field-0.0 (λ P. IfOk-from_err _ _ c.from_residual.ensures.0) (c.in_err-from.ensures.log tells)
+    log_front_refused c.args.name.now (length c.args.buffer.now) _ _ _ _ c.in_err-from.field-0.0 c.from_residual.ensures.1 (c.in_err-from.ensures.log tells)
 
 pub fill-answer-requires : goal.fill-answer-requires
 fill-answer-requires g c = record {
