@@ -237,14 +237,14 @@ impl Chunk {
         ensures { result ≡ slice_get self.now.1 place }
     {
         match &self.elements {
-            Elements::Bytes(items) | Elements::Block(items) => byte_at(
-                behind(items.as_slice(), self.start),
-                place,
-            ),
-            Elements::Chars(items) | Elements::Text(items) => char_at(
-                behind(items.as_slice(), self.start),
-                place,
-            ),
+            Elements::Bytes(items) | Elements::Block(items) => {
+                let bytes = behind(items.as_slice(), self.start);
+                byte_at(bytes, place)
+            }
+            Elements::Chars(items) | Elements::Text(items) => {
+                let chars = behind(items.as_slice(), self.start);
+                char_at(chars, place)
+            }
         }
     }
 
