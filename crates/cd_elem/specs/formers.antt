@@ -1,0 +1,3 @@
+-- How the owners of members store them, for the types that lead back to themselves.
+pub mod boxed
+pub mod items
