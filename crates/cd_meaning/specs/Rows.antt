@@ -1,7 +1,11 @@
 -- Worked rows by computation: here those of one form, below those of each family of words, of forms and of scripts.
+pub mod Bases
 pub mod Classes
 pub mod Elements
 pub mod Given
+pub mod Pieces
+pub mod Splitters
+pub mod Texts
 use Rattle.std.specs.Prelude.{ℕ, ◌≡◌, refl, List, [], ◌∷◌, codes}
 use Rattle.cd_meaning.specs.Stream.{Value, More, Stop, Reading, ReadBad, Done, Halts, Open, Put, Close}
 use Rattle.cd_meaning.specs.Run.{effects, ending}

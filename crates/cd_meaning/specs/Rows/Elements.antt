@@ -3,19 +3,19 @@ use Rattle.std.specs.Prelude.{◌≡◌, refl, [], ◌∷◌, codes, true, false
 use Rattle.cd_meaning.specs.Stream.{BadHex, Ended, Halted, Stop, Value, absent, present}
 use Rattle.cd_meaning.specs.Classes.{add, digit, rot13, space, xor}
 use Rattle.cd_meaning.specs.Meaning.{all_e, any_e, collect_e, drop_e, drop_while_e, filter_e, head_e, last_e, length_e, map_e, null_e, pass_e, peek_e, repeat_e, sink_null, sum_e, take_e, take_while_e}
-use Rattle.cd_meaning.specs.Rows.Given.{at_end, done_at, elem_at, on_blocks, on_bytes, on_chars, stops_at, waiting, waits_past}
+use Rattle.cd_meaning.specs.Rows.Given.{at_end, done_at, gives_elem, on_blocks, on_bytes, on_chars, stops_at, waiting, waits_past}
 
 -- `passE`
 pass_e_empty : on_bytes pass_e [] Ended ≡ at_end 0
 pass_e_empty = refl
 
-pass_e_short : on_bytes pass_e (codes "ab") Ended ≡ elem_at 1 97 (elem_at 2 98 (at_end 2))
+pass_e_short : on_bytes pass_e (codes "ab") Ended ≡ gives_elem 1 97 (gives_elem 2 98 (at_end 2))
 pass_e_short = refl
 
-pass_e_waits : on_bytes pass_e (codes "ab") waiting ≡ elem_at 1 97 (elem_at 2 98 (waits_past 2))
+pass_e_waits : on_bytes pass_e (codes "ab") waiting ≡ gives_elem 1 97 (gives_elem 2 98 (waits_past 2))
 pass_e_waits = refl
 
-pass_e_fault : on_bytes pass_e (codes "a") (Halted (Stop (BadHex 7))) ≡ elem_at 1 97 (stops_at 2 1 (BadHex 7))
+pass_e_fault : on_bytes pass_e (codes "a") (Halted (Stop (BadHex 7))) ≡ gives_elem 1 97 (stops_at 2 1 (BadHex 7))
 pass_e_fault = refl
 
 
@@ -23,13 +23,13 @@ pass_e_fault = refl
 take_e_empty : on_bytes (take_e 3) [] Ended ≡ at_end 0
 take_e_empty = refl
 
-take_e_short : on_bytes (take_e 3) (codes "ab") Ended ≡ elem_at 1 97 (elem_at 2 98 (at_end 2))
+take_e_short : on_bytes (take_e 3) (codes "ab") Ended ≡ gives_elem 1 97 (gives_elem 2 98 (at_end 2))
 take_e_short = refl
 
-take_e_waits : on_bytes (take_e 3) (codes "ab") waiting ≡ elem_at 1 97 (elem_at 2 98 (waits_past 2))
+take_e_waits : on_bytes (take_e 3) (codes "ab") waiting ≡ gives_elem 1 97 (gives_elem 2 98 (waits_past 2))
 take_e_waits = refl
 
-take_e_ends : on_bytes (take_e 3) (codes "abc") waiting ≡ elem_at 1 97 (elem_at 2 98 (elem_at 3 99 (done_at 3 3 Value.Unit)))
+take_e_ends : on_bytes (take_e 3) (codes "abc") waiting ≡ gives_elem 1 97 (gives_elem 2 98 (gives_elem 3 99 (done_at 3 3 Value.Unit)))
 take_e_ends = refl
 
 take_e_none : on_bytes (take_e 0) (codes "abc") waiting ≡ done_at 0 0 Value.Unit
@@ -40,13 +40,13 @@ take_e_none = refl
 take_while_e_empty : on_bytes (take_while_e digit) [] Ended ≡ at_end 0
 take_while_e_empty = refl
 
-take_while_e_short : on_bytes (take_while_e digit) (codes "12") Ended ≡ elem_at 1 49 (elem_at 2 50 (at_end 2))
+take_while_e_short : on_bytes (take_while_e digit) (codes "12") Ended ≡ gives_elem 1 49 (gives_elem 2 50 (at_end 2))
 take_while_e_short = refl
 
-take_while_e_waits : on_bytes (take_while_e digit) (codes "12") waiting ≡ elem_at 1 49 (elem_at 2 50 (waits_past 2))
+take_while_e_waits : on_bytes (take_while_e digit) (codes "12") waiting ≡ gives_elem 1 49 (gives_elem 2 50 (waits_past 2))
 take_while_e_waits = refl
 
-take_while_e_ends : on_bytes (take_while_e digit) (codes "1x2") waiting ≡ elem_at 1 49 (done_at 2 1 Value.Unit)
+take_while_e_ends : on_bytes (take_while_e digit) (codes "1x2") waiting ≡ gives_elem 1 49 (done_at 2 1 Value.Unit)
 take_while_e_ends = refl
 
 
@@ -54,10 +54,10 @@ take_while_e_ends = refl
 filter_e_empty : on_bytes (filter_e digit) [] Ended ≡ at_end 0
 filter_e_empty = refl
 
-filter_e_short : on_bytes (filter_e digit) (codes "a1b") Ended ≡ elem_at 2 49 (at_end 3)
+filter_e_short : on_bytes (filter_e digit) (codes "a1b") Ended ≡ gives_elem 2 49 (at_end 3)
 filter_e_short = refl
 
-filter_e_waits : on_bytes (filter_e digit) (codes "a1b2") waiting ≡ elem_at 2 49 (elem_at 4 50 (waits_past 4))
+filter_e_waits : on_bytes (filter_e digit) (codes "a1b2") waiting ≡ gives_elem 2 49 (gives_elem 4 50 (waits_past 4))
 filter_e_waits = refl
 
 
@@ -65,13 +65,13 @@ filter_e_waits = refl
 map_e_empty : on_bytes (map_e (xor 1)) [] Ended ≡ at_end 0
 map_e_empty = refl
 
-map_e_short : on_bytes (map_e (xor 1)) (codes "ab") Ended ≡ elem_at 1 96 (elem_at 2 99 (at_end 2))
+map_e_short : on_bytes (map_e (xor 1)) (codes "ab") Ended ≡ gives_elem 1 96 (gives_elem 2 99 (at_end 2))
 map_e_short = refl
 
-map_e_waits : on_bytes (map_e (add 200)) (codes "ad") waiting ≡ elem_at 1 41 (elem_at 2 44 (waits_past 2))
+map_e_waits : on_bytes (map_e (add 200)) (codes "ad") waiting ≡ gives_elem 1 41 (gives_elem 2 44 (waits_past 2))
 map_e_waits = refl
 
-map_e_chars : on_chars (map_e rot13) (97 ∷ 8364 ∷ 90 ∷ []) Ended ≡ elem_at 1 110 (elem_at 2 8364 (elem_at 3 77 (at_end 3)))
+map_e_chars : on_chars (map_e rot13) (97 ∷ 8364 ∷ 90 ∷ []) Ended ≡ gives_elem 1 110 (gives_elem 2 8364 (gives_elem 3 77 (at_end 3)))
 map_e_chars = refl
 
 
@@ -79,10 +79,10 @@ map_e_chars = refl
 repeat_e_empty : on_bytes (repeat_e 2) [] Ended ≡ at_end 0
 repeat_e_empty = refl
 
-repeat_e_short : on_bytes (repeat_e 2) (codes "ab") Ended ≡ elem_at 1 97 (elem_at 1 97 (elem_at 2 98 (elem_at 2 98 (at_end 2))))
+repeat_e_short : on_bytes (repeat_e 2) (codes "ab") Ended ≡ gives_elem 1 97 (gives_elem 1 97 (gives_elem 2 98 (gives_elem 2 98 (at_end 2))))
 repeat_e_short = refl
 
-repeat_e_waits : on_bytes (repeat_e 2) (codes "a") waiting ≡ elem_at 1 97 (elem_at 1 97 (waits_past 1))
+repeat_e_waits : on_bytes (repeat_e 2) (codes "a") waiting ≡ gives_elem 1 97 (gives_elem 1 97 (waits_past 1))
 repeat_e_waits = refl
 
 repeat_e_none : on_bytes (repeat_e 0) (codes "ab") Ended ≡ at_end 2

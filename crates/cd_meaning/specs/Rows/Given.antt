@@ -39,11 +39,11 @@ abbrev pub on_nothing : Meaning → Seen → Run
 on_nothing m seen = m.run None 1 seen [] Ended
 
 -- an element, or a piece, is given at (i, i)
-abbrev pub elem_at : ℕ → ℕ → Run → Run
-elem_at i n r = Then (stamp i i) (Out (Elem n)) r
+abbrev pub gives_elem : ℕ → ℕ → Run → Run
+gives_elem i n r = Then (stamp i i) (Out (Elem n)) r
 
-abbrev pub piece_at : ℕ → List ℕ → Run → Run
-piece_at i xs r = Then (stamp i i) (Out (Piece xs)) r
+abbrev pub gives_piece : ℕ → List ℕ → Run → Run
+gives_piece i xs r = Then (stamp i i) (Out (Piece xs)) r
 
 -- the same behind the end of n values
 abbrev pub late_elem : ℕ → ℕ → Run → Run
