@@ -2,10 +2,13 @@
 pub mod Bases
 pub mod Classes
 pub mod Elements
+pub mod Forms
 pub mod Given
 pub mod Pieces
+pub mod Sites
 pub mod Splitters
 pub mod Texts
+pub mod ValueTexts
 use Rattle.std.specs.Prelude.{ℕ, ◌≡◌, refl, List, [], ◌∷◌, codes}
 use Rattle.cd_meaning.specs.Stream.{Value, More, Stop, Reading, ReadBad, Done, Halts, Open, Put, Close}
 use Rattle.cd_meaning.specs.Run.{effects, ending}

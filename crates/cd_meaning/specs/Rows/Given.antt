@@ -1,6 +1,6 @@
 -- How rows are written: inputs, and runs.
 use Rattle.std.specs.Prelude.{ℕ, ◌+◌, ◌==◌, if◌then◌else◌, List, [], ◌∷◌, map, Some, None}
-use Rattle.cd_meaning.specs.Stream.{Item, Elem, Piece, Sort, Value, Wait, Input, Fault, More, Stop, End, Ended, Halted, Ending, Done, Halts, Act, Out, Effect, Open, Put, Close}
+use Rattle.cd_meaning.specs.Stream.{Item, Elem, Piece, Sort, Value, Wait, Input, Reading, Fault, More, Stop, End, Ended, Halted, Ending, Done, Halts, Act, Out, Do, Effect, Put}
 use Rattle.cd_meaning.specs.Run.{stamp, Run, Then, Ends}
 use Rattle.cd_meaning.specs.Words.{Mark, MayGoOn, Told, Seen}
 use Rattle.cd_meaning.specs.Meaning.{Meaning}
@@ -52,6 +52,10 @@ late_elem n x r = Then (stamp (n + 1) n) (Out (Elem x)) r
 abbrev pub late_piece : ℕ → List ℕ → Run → Run
 late_piece n xs r = Then (stamp (n + 1) n) (Out (Piece xs)) r
 
+-- an effect at this stamp
+abbrev pub does_at : ℕ → ℕ → Effect → Run → Run
+does_at need net e r = Then (stamp need net) (Do e) r
+
 abbrev pub done_at : ℕ → ℕ → Value → Run
 done_at need net v = Ends (stamp need net) (Done v)
 
@@ -65,6 +69,10 @@ waits_at need net = Ends (stamp need net) (Halts (More Input))
 -- it waits for the value behind n values
 abbrev pub waits_past : ℕ → Run
 waits_past n = waits_at (n + 1) n
+
+-- a source waits for its site
+abbrev pub waits_for : ℕ → Run
+waits_for s = Ends (stamp 0 0) (Halts (More (Reading s)))
 
 abbrev pub stops_at : ℕ → ℕ → Fault → Run
 stops_at need net f = Ends (stamp need net) (Halts (Stop f))
