@@ -5,8 +5,10 @@ pub mod Elements
 pub mod Forms
 pub mod Given
 pub mod Pieces
+pub mod Scripts
 pub mod Sites
 pub mod Splitters
+pub mod Statements
 pub mod Texts
 pub mod ValueTexts
 use Rattle.std.specs.Prelude.{ℕ, ◌≡◌, refl, List, [], ◌∷◌, codes}

@@ -1,9 +1,10 @@
 -- How rows are written: inputs, and runs.
 use Rattle.std.specs.Prelude.{ℕ, ◌+◌, ◌==◌, if◌then◌else◌, List, [], ◌∷◌, map, Some, None}
 use Rattle.cd_meaning.specs.Stream.{Item, Elem, Piece, Sort, Value, Wait, Input, Reading, Fault, More, Stop, End, Ended, Halted, Ending, Done, Halts, Act, Out, Do, Effect, Put}
-use Rattle.cd_meaning.specs.Run.{stamp, Run, Then, Ends}
+use Rattle.cd_meaning.specs.Run.{stamp, Run, Then, Ends, effects, ending}
+use Rattle.cd_meaning.specs.ValueText.{value_text}
 use Rattle.cd_meaning.specs.Words.{Mark, MayGoOn, Told, Seen}
-use Rattle.cd_meaning.specs.Meaning.{Meaning}
+use Rattle.cd_meaning.specs.Meaning.{Meaning, Statement, script_run}
 
 -- what was told of some sites; of the others nothing is known
 pub record AtSite : Type 0 where
@@ -76,6 +77,13 @@ waits_for s = Ends (stamp 0 0) (Halts (More (Reading s)))
 
 abbrev pub stops_at : ℕ → ℕ → Fault → Run
 stops_at need net f = Ends (stamp need net) (Halts (Stop f))
+
+-- what a script does, and how it ends, where this was told of its sites
+abbrev pub does : List Statement → List AtSite → List Effect
+does statements told = effects (script_run value_text (seen_of told) statements)
+
+abbrev pub ends_so : List Statement → List AtSite → Ending
+ends_so statements told = ending (script_run value_text (seen_of told) statements)
 
 -- the texts that a site puts
 abbrev pub puts_at : ℕ → List ℕ → List Effect → List Effect
