@@ -1,5 +1,5 @@
 -- Classes and maps of elements, tests and maps of pieces.
-use Rattle.std.specs.Prelude.{ℕ, suc, ◌+◌, ◌-◌, ◌%◌, ◌==◌, nat_lt, nat_le, Bool, not, ◌&&◌, ◌||◌, if◌then◌else◌, List, [], ◌∷◌, ◌++◌, length, take, drop, reverse, bit_xor, bytes_eq}
+use Rattle.std.specs.Prelude.{ℕ, ◌+◌, ◌-◌, ◌%◌, ◌==◌, nat_lt, nat_le, Bool, not, ◌&&◌, ◌||◌, if◌then◌else◌, List, ◌++◌, length, take, drop, reverse, bit_xor, bytes_eq}
 use Rattle.cd_meaning.specs.Stream.{Item, Elem, Piece, Sort}
 use Rattle.cd_meaning.specs.Words.{number, elements}
 use Rattle.cd_meaning.specs.Sorts.{literal_at}

@@ -1,6 +1,6 @@
 -- The words on elements, each as its run on a whole list. Where pieces have a word of the same rule, the formula serves both.
 use Rattle.std.specs.Prelude.{ℕ, suc, ◌+◌, Bool, true, false, if◌then◌else◌, List, [], ◌∷◌, length, replicate}
-use Rattle.cd_meaning.specs.Stream.{Item, Elem, Piece, Value, absent, present, End, Done, Act, Out}
+use Rattle.cd_meaning.specs.Stream.{Item, Value, absent, present, End, Done, Act, Out}
 use Rattle.cd_meaning.specs.Run.{stamp, Run, Ends, Component, past}
 use Rattle.cd_meaning.specs.Words.{each_to_end, passes, drops, first, unit_of, while, whole, number}
 

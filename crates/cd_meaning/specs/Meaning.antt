@@ -1,5 +1,5 @@
 -- What parts of a pipe mean, by the sort of what they take, and what statements mean.
-use Rattle.std.specs.Prelude.{ℕ, suc, ◌+◌, ◌==◌, List, [], ◌∷◌, ◌++◌, codes, map, replicate, bytes_eq, if◌then◌else◌, Some, None, option_map}
+use Rattle.std.specs.Prelude.{ℕ, suc, ◌+◌, List, [], ◌∷◌, ◌++◌, codes, map, replicate, bytes_eq, if◌then◌else◌, Some, None, option_map}
 use Rattle.cd_meaning.specs.Stream.{Sort, Flow, Value, Ended, Done, Halts, Act, Out, Do, Open, Put, Close}
 use Rattle.cd_meaning.specs.Run.{Stamp, start, Run, Then, Ends, Component, acts_at}
 use Rattle.cd_meaning.specs.Words.{Seen}

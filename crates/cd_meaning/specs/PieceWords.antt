@@ -1,5 +1,5 @@
 -- The words on pieces whose rules the words on elements have not.
-use Rattle.std.specs.Prelude.{suc, List, [], ◌∷◌, length}
+use Rattle.std.specs.Prelude.{suc, [], ◌∷◌, length}
 use Rattle.cd_meaning.specs.Stream.{Item, Value, Out}
 use Rattle.cd_meaning.specs.Run.{stamp, Then, Component, past}
 use Rattle.cd_meaning.specs.Words.{each}

@@ -1,5 +1,4 @@
 -- Sealed sources: runs on nothing, from which sinks take a part each.
-use Rattle.std.specs.Prelude.{ℕ}
 use Rattle.cd_meaning.specs.Run.{Stamp, start, Run, Component, last, outs_at}
 use Rattle.cd_meaning.specs.Fusion.{fed, fuse_at, after, outs_between}
 

@@ -1,5 +1,5 @@
 -- Sources, sinks and `mark`: the words with sites, and lists that are given.
-use Rattle.std.specs.Prelude.{ℕ, zero, suc, ◌-◌, List, [], ◌∷◌, length, map, replicate, decimal}
+use Rattle.std.specs.Prelude.{ℕ, zero, suc, ◌-◌, List, [], ◌∷◌, length, map, decimal}
 use Rattle.cd_meaning.specs.Stream.{Item, Elem, Piece, Value, More, Stop, Reading, ReadBad, Long, End, Ended, Halted, Done, Halts, Act, Do, Open, Put, Close}
 use Rattle.cd_meaning.specs.Run.{stamp, start, Run, Then, Ends, Component, outs_at, past, follow}
 use Rattle.cd_meaning.specs.Words.{each, each_to_end, Mark, AtEnd, MayGoOn, Broken, TooLong, Told}

@@ -1,6 +1,6 @@
 -- From elements to pieces, and back.
 use Rattle.std.specs.Prelude.{ℕ, suc, ◌+◌, ◌==◌, Bool, true, false, if◌then◌else◌, List, [], ◌∷◌, ◌++◌, length}
-use Rattle.cd_meaning.specs.Stream.{Item, Piece, Value, End, Ended, Halted, Act, Out}
+use Rattle.cd_meaning.specs.Stream.{Item, Piece, Value, End, Ended, Halted, Out}
 use Rattle.cd_meaning.specs.Run.{stamp, Run, Then, Component, outs_at, past}
 use Rattle.cd_meaning.specs.Words.{each_to_end, number, elements, piece, elements_out}
 

@@ -1,6 +1,6 @@
 -- Shapes of words' runs, and what is known of the sites that read.
 use Rattle.std.specs.Prelude.{ℕ, suc, ◌==◌, nat_le, Bool, if◌then◌else◌, List, [], ◌∷◌, length, take, map}
-use Rattle.cd_meaning.specs.Stream.{Item, Elem, Piece, Value, End, Done, Act, Out}
+use Rattle.cd_meaning.specs.Stream.{Item, Elem, Piece, Value, Done, Act, Out}
 use Rattle.cd_meaning.specs.Run.{stamp, Run, Ends, Component, acts_at, past}
 
 -- the acts of the i-th value at (i, i), for each value, where i values stand before; and what comes behind them

@@ -1,5 +1,5 @@
 -- Base16 and base64, on empty inputs, on inputs that end or wait, and on bad ones.
-use Rattle.std.specs.Prelude.{◌≡◌, refl, [], ◌∷◌, ◌++◌, codes}
+use Rattle.std.specs.Prelude.{◌≡◌, refl, [], ◌∷◌, codes}
 use Rattle.cd_meaning.specs.Stream.{BadBase64, BadHex, Ended}
 use Rattle.cd_meaning.specs.Meaning.{base64_decode_word, base64_encode_word, hex_decode_word, hex_encode_word}
 use Rattle.cd_meaning.specs.Rows.Given.{at_end, gives_elem, late_elem, on_bytes, stops_at, waiting, waits_past}
@@ -13,7 +13,6 @@ hex_encode_short = refl
 
 hex_encode_waits : on_bytes hex_encode_word (9 ∷ []) waiting ≡ gives_elem 1 48 (gives_elem 1 57 (waits_past 1))
 hex_encode_waits = refl
-
 
 -- `hexDecode`: a group is met at its last character
 hex_decode_empty : on_bytes hex_decode_word [] Ended ≡ at_end 0
@@ -40,7 +39,6 @@ hex_decode_bad_second = refl
 hex_decode_bad_between : on_bytes hex_decode_word (codes ":@") Ended ≡ stops_at 2 2 (BadHex 0)
 hex_decode_bad_between = refl
 
-
 -- `base64Encode`: the words of RFC 4648, section 10
 base64_encode_empty : on_bytes base64_encode_word [] Ended ≡ at_end 0
 base64_encode_empty = refl
@@ -59,7 +57,6 @@ base64_encode_waits = refl
 
 base64_encode_last_digits : on_bytes base64_encode_word (251 ∷ 255 ∷ 190 ∷ []) Ended ≡ gives_elem 3 43 (gives_elem 3 47 (gives_elem 3 43 (gives_elem 3 43 (at_end 3))))
 base64_encode_last_digits = refl
-
 
 -- `base64Decode`
 base64_decode_empty : on_bytes base64_decode_word [] Ended ≡ at_end 0

@@ -109,7 +109,6 @@ below_same = refl
 class_not : not_class digit 48 ≡ false
 class_not = refl
 
-
 -- maps
 xor_is : xor 255 97 ≡ 158
 xor_is = refl
@@ -131,7 +130,6 @@ rot13_upper_z = refl
 
 rot13_digit : rot13 49 ≡ 49
 rot13_digit = refl
-
 
 -- tests; the euro sign is three bytes and one character
 empty_is : empty Sort.Block [] ≡ true
@@ -178,7 +176,6 @@ shorter_not = refl
 
 test_not : not_test empty Sort.Block [] ≡ false
 test_not = refl
-
 
 -- maps of pieces
 prefix_bytes : prefix (226 ∷ 130 ∷ 172 ∷ []) Sort.Block (codes "a") ≡ 226 ∷ 130 ∷ 172 ∷ 97 ∷ []

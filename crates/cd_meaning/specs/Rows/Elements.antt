@@ -18,7 +18,6 @@ pass_e_waits = refl
 pass_e_fault : on_bytes pass_e (codes "a") (Halted (Stop (BadHex 7))) ≡ gives_elem 1 97 (stops_at 2 1 (BadHex 7))
 pass_e_fault = refl
 
-
 -- `takeE`: of three values it does not ask for the fourth
 take_e_empty : on_bytes (take_e 3) [] Ended ≡ at_end 0
 take_e_empty = refl
@@ -35,7 +34,6 @@ take_e_ends = refl
 take_e_none : on_bytes (take_e 0) (codes "abc") waiting ≡ done_at 0 0 Value.Unit
 take_e_none = refl
 
-
 -- `takeWhileE`: the first value that fails is given back
 take_while_e_empty : on_bytes (take_while_e digit) [] Ended ≡ at_end 0
 take_while_e_empty = refl
@@ -49,7 +47,6 @@ take_while_e_waits = refl
 take_while_e_ends : on_bytes (take_while_e digit) (codes "1x2") waiting ≡ gives_elem 1 49 (done_at 2 1 Value.Unit)
 take_while_e_ends = refl
 
-
 -- `filterE`
 filter_e_empty : on_bytes (filter_e digit) [] Ended ≡ at_end 0
 filter_e_empty = refl
@@ -59,7 +56,6 @@ filter_e_short = refl
 
 filter_e_waits : on_bytes (filter_e digit) (codes "a1b2") waiting ≡ gives_elem 2 49 (gives_elem 4 50 (waits_past 4))
 filter_e_waits = refl
-
 
 -- `mapE`: `add` counts modulo 256
 map_e_empty : on_bytes (map_e (xor 1)) [] Ended ≡ at_end 0
@@ -74,7 +70,6 @@ map_e_waits = refl
 map_e_chars : on_chars (map_e rot13) (97 ∷ 8364 ∷ 90 ∷ []) Ended ≡ gives_elem 1 110 (gives_elem 2 8364 (gives_elem 3 77 (at_end 3)))
 map_e_chars = refl
 
-
 -- `repeatE`
 repeat_e_empty : on_bytes (repeat_e 2) [] Ended ≡ at_end 0
 repeat_e_empty = refl
@@ -87,7 +82,6 @@ repeat_e_waits = refl
 
 repeat_e_none : on_bytes (repeat_e 0) (codes "ab") Ended ≡ at_end 2
 repeat_e_none = refl
-
 
 -- `dropE`
 drop_e_empty : on_bytes (drop_e 3) [] Ended ≡ at_end 0
@@ -105,7 +99,6 @@ drop_e_ends = refl
 drop_e_none : on_bytes (drop_e 0) [] waiting ≡ done_at 0 0 Value.Unit
 drop_e_none = refl
 
-
 -- `dropWhileE`
 drop_while_e_empty : on_bytes (drop_while_e space) [] Ended ≡ at_end 0
 drop_while_e_empty = refl
@@ -118,7 +111,6 @@ drop_while_e_waits = refl
 
 drop_while_e_ends : on_bytes (drop_while_e space) (codes "  a ") waiting ≡ done_at 3 2 Value.Unit
 drop_while_e_ends = refl
-
 
 -- `headE` takes a value, `peekE` gives it back
 head_e_empty : on_bytes head_e [] Ended ≡ done_at 1 0 absent
@@ -145,7 +137,6 @@ peek_e_bytes = refl
 peek_e_chars : on_chars peek_e (8364 ∷ []) Ended ≡ done_at 1 0 (present (Value.Char 8364))
 peek_e_chars = refl
 
-
 -- `lastE`
 last_e_empty : on_bytes last_e [] Ended ≡ done_at 1 0 absent
 last_e_empty = refl
@@ -155,7 +146,6 @@ last_e_short = refl
 
 last_e_waits : on_bytes last_e (codes "abc") waiting ≡ waits_past 3
 last_e_waits = refl
-
 
 -- `lengthE`
 length_e_empty : on_bytes length_e [] Ended ≡ done_at 1 0 (Value.Num 0)
@@ -167,7 +157,6 @@ length_e_short = refl
 length_e_waits : on_bytes length_e (codes "ab") waiting ≡ waits_past 2
 length_e_waits = refl
 
-
 -- `sumE`: 250 and 10 are 260
 sum_e_empty : on_bytes sum_e [] Ended ≡ done_at 1 0 (Value.Num 0)
 sum_e_empty = refl
@@ -177,7 +166,6 @@ sum_e_short = refl
 
 sum_e_waits : on_bytes sum_e (250 ∷ 10 ∷ []) waiting ≡ waits_past 2
 sum_e_waits = refl
-
 
 -- `allE`: the first value that fails decides
 all_e_empty : on_bytes (all_e digit) [] Ended ≡ done_at 1 0 (Value.Bool true)
@@ -192,7 +180,6 @@ all_e_waits = refl
 all_e_ends : on_bytes (all_e digit) (codes "1x2") waiting ≡ done_at 2 2 (Value.Bool false)
 all_e_ends = refl
 
-
 -- `anyE`: the first value that passes decides
 any_e_empty : on_bytes (any_e digit) [] Ended ≡ done_at 1 0 (Value.Bool false)
 any_e_empty = refl
@@ -206,7 +193,6 @@ any_e_waits = refl
 any_e_ends : on_bytes (any_e digit) (codes "ab3c") waiting ≡ done_at 3 3 (Value.Bool true)
 any_e_ends = refl
 
-
 -- `nullE` gives the value back
 null_e_empty : on_bytes null_e [] Ended ≡ done_at 1 0 (Value.Bool true)
 null_e_empty = refl
@@ -216,7 +202,6 @@ null_e_waits = refl
 
 null_e_ends : on_bytes null_e (codes "ab") waiting ≡ done_at 1 0 (Value.Bool false)
 null_e_ends = refl
-
 
 -- `collectE`
 collect_e_empty : on_bytes (collect_e 3) [] Ended ≡ done_at 1 0 (Value.BytesV [])
@@ -233,7 +218,6 @@ collect_e_ends = refl
 
 collect_e_none : on_bytes (collect_e 0) (codes "ab") waiting ≡ done_at 0 0 (Value.BytesV [])
 collect_e_none = refl
-
 
 -- `sinkNull`, on pieces too
 sink_null_empty : on_bytes sink_null [] Ended ≡ at_end 0

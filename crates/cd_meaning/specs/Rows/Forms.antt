@@ -31,7 +31,6 @@ piped_fault = refl
 piped_late : on_bytes (piped (chunks_of_word 2) flat_word) (codes "abc") Ended ≡ gives_elem 2 97 (gives_elem 2 98 (late_elem 3 99 (at_end 3)))
 piped_late = refl
 
-
 -- `|=`: the stamps are the second part's
 keep_empty : on_bytes (piped_keep (map_e (xor 1)) peek_e) [] Ended ≡ done_at 1 0 absent
 keep_empty = refl
@@ -41,7 +40,6 @@ keep_leftover = refl
 
 keep_waits : on_bytes (piped_keep (map_e (xor 1)) (take_e 2)) (codes "a") waiting ≡ gives_elem 1 96 (waits_past 1)
 keep_waits = refl
-
 
 -- `|+`: what the second part gave back, of the first one's pieces
 return_empty : on_blocks (piped_return pass_word peek_word) [] Ended ≡ done_at 1 0 (Value.Pair absent (Value.ListV NoValues))
@@ -59,7 +57,6 @@ return_later = refl
 return_waits : on_blocks (piped_return pass_word length_word) (codes "a" ∷ []) waiting ≡ waits_past 1
 return_waits = refl
 
-
 -- `|&`: the first part goes on to its own end
 both_empty : on_bytes (piped_both pass_e length_e) [] Ended ≡ done_at 1 0 (Value.Pair Value.Unit (Value.Num 0))
 both_empty = refl
@@ -76,7 +73,6 @@ both_values = refl
 both_drains : on_bytes (piped_both (sequence_form (take_e 1) stdout_word) (drop_e 1)) (codes "ab") Ended ≡ does_at 2 2 (Put 1 98) (at_end 2)
 both_drains = refl
 
-
 -- `|<`: the first part's value alone
 up_empty : on_blocks (piped_up (sequence_form (take_word 1) length_word) (drop_word 1)) [] Ended ≡ done_at 1 0 (Value.Num 0)
 up_empty = refl
@@ -86,7 +82,6 @@ up_value = refl
 
 up_waits : on_blocks (piped_up (sequence_form (take_word 1) length_word) (drop_word 1)) (codes "a" ∷ []) waiting ≡ waits_past 1
 up_waits = refl
-
 
 -- `|?`: whether the second part asked past the first one's end
 asked_empty : on_bytes (piped_asked pass_e (drop_e 1)) [] Ended ≡ done_at 1 0 (Value.Pair (present Value.Unit) Value.Unit)
@@ -100,7 +95,6 @@ asked_past = refl
 
 asked_waits : on_bytes (piped_asked (take_e 2) (drop_e 3)) (codes "a") waiting ≡ waits_past 1
 asked_waits = refl
-
 
 -- `exactlyE` and `exactly`
 exactly_e_empty : on_bytes (exactly_e_form 2 head_e) [] Ended ≡ done_at 1 0 absent
@@ -133,7 +127,6 @@ exactly_waits = refl
 exactly_ends : on_blocks (exactly_form 2 length_word) (codes "a" ∷ codes "b" ∷ codes "c" ∷ []) waiting ≡ done_at 2 2 (Value.Num 2)
 exactly_ends = refl
 
-
 -- `lineE` takes the newline too
 line_e_empty : on_bytes (line_e_form length_e) [] Ended ≡ done_at 1 0 (Value.Num 0)
 line_e_empty = refl
@@ -152,7 +145,6 @@ line_e_drains = refl
 
 line_e_blank : on_chars (line_e_form length_e) (codes "\n") waiting ≡ done_at 1 1 (Value.Num 0)
 line_e_blank = refl
-
 
 -- a sequence: the second part begins behind what the first one took
 sequence_empty : on_bytes (sequence_form (take_e 1) pass_e) [] Ended ≡ at_end 0
@@ -179,7 +171,6 @@ sequence_first_waits = refl
 sequence_fault : on_bytes (sequence_form (drop_e 1) hex_decode_word) (codes "x4G") waiting ≡ stops_at 3 3 (BadHex 0)
 sequence_fault = refl
 
-
 -- `zipSink`: at equal need the first part's acts come first
 zip_sink_empty : on_bytes (zip_sink_form head_e length_e) [] Ended ≡ done_at 1 0 (Value.Pair absent (Value.Num 0))
 zip_sink_empty = refl
@@ -199,7 +190,6 @@ zip_sink_peeks = refl
 zip_sink_order : on_bytes (zip_sink_form stdout_word sink_null) (codes "ab") Ended ≡ does_at 1 1 (Put 1 97) (does_at 2 2 (Put 1 98) (at_end 2))
 zip_sink_order = refl
 
-
 -- `zipConduit`
 zip_conduit_empty : on_blocks (zip_conduit_form pass_word (map_word reversed)) [] Ended ≡ at_end 0
 zip_conduit_empty = refl
@@ -213,7 +203,6 @@ zip_conduit_waits = refl
 zip_conduit_both : on_blocks (zip_conduit_form (take_word 1) (take_word 2)) (codes "a" ∷ codes "b" ∷ codes "c" ∷ []) waiting ≡ gives_piece 1 (codes "a") (gives_piece 1 (codes "a") (gives_piece 2 (codes "b") (done_at 2 2 Value.Unit)))
 zip_conduit_both = refl
 
-
 -- `tee`: the sink has a piece before it is passed on
 tee_empty : on_blocks (tee_form sink_null) [] Ended ≡ at_end 0
 tee_empty = refl
@@ -223,7 +212,6 @@ tee_short = refl
 
 tee_waits : on_blocks (tee_form (drop_word 1)) (codes "a" ∷ codes "b" ∷ []) waiting ≡ gives_piece 1 (codes "a") (gives_piece 2 (codes "b") (waits_past 2))
 tee_waits = refl
-
 
 -- `zipSource` asks the first part, then the second, then gives both pieces
 zip_source_empty : on_nothing (zip_source_form (codes ":") (blocks_word []) (blocks_word (codes "1" ∷ []))) (seen_of []) ≡ done_at 0 0 Value.Unit

@@ -1,6 +1,6 @@
 -- How rows are written: inputs, and runs.
 use Rattle.std.specs.Prelude.{ℕ, ◌+◌, ◌==◌, if◌then◌else◌, List, [], ◌∷◌, map, Some, None}
-use Rattle.cd_meaning.specs.Stream.{Item, Elem, Piece, Sort, Value, Wait, Input, Reading, Fault, More, Stop, End, Ended, Halted, Ending, Done, Halts, Act, Out, Do, Effect, Put}
+use Rattle.cd_meaning.specs.Stream.{Elem, Piece, Sort, Value, Input, Reading, Fault, More, Stop, End, Ended, Halted, Ending, Done, Halts, Out, Do, Effect, Put}
 use Rattle.cd_meaning.specs.Run.{stamp, Run, Then, Ends, effects, ending}
 use Rattle.cd_meaning.specs.ValueText.{value_text}
 use Rattle.cd_meaning.specs.Words.{Mark, MayGoOn, Told, Seen}

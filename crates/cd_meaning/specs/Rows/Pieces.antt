@@ -15,7 +15,6 @@ pass_short = refl
 pass_waits : on_blocks pass_word (codes "ab" ∷ []) waiting ≡ gives_piece 1 (codes "ab") (waits_past 1)
 pass_waits = refl
 
-
 -- `take`
 take_empty : on_blocks (take_word 2) [] Ended ≡ at_end 0
 take_empty = refl
@@ -28,7 +27,6 @@ take_waits = refl
 
 take_ends : on_blocks (take_word 2) (codes "a" ∷ codes "b" ∷ codes "c" ∷ []) waiting ≡ gives_piece 1 (codes "a") (gives_piece 2 (codes "b") (done_at 2 2 Value.Unit))
 take_ends = refl
-
 
 -- `takeWhile`
 take_while_empty : on_blocks (take_while_word (shorter 2)) [] Ended ≡ at_end 0
@@ -43,7 +41,6 @@ take_while_waits = refl
 take_while_ends : on_blocks (take_while_word (shorter 2)) (codes "a" ∷ codes "bc" ∷ codes "d" ∷ []) waiting ≡ gives_piece 1 (codes "a") (done_at 2 1 Value.Unit)
 take_while_ends = refl
 
-
 -- `filter`: a literal is of bytes among blocks, of characters among texts
 filter_empty : on_blocks (filter_word (begins (codes "a"))) [] Ended ≡ at_end 0
 filter_empty = refl
@@ -57,7 +54,6 @@ filter_waits = refl
 filter_texts : on_texts (filter_word (ends (226 ∷ 130 ∷ 172 ∷ []))) ((49 ∷ 8364 ∷ []) ∷ (226 ∷ 130 ∷ 172 ∷ []) ∷ []) Ended ≡ gives_piece 1 (49 ∷ 8364 ∷ []) (at_end 2)
 filter_texts = refl
 
-
 -- `repeat`
 repeat_empty : on_blocks (repeat_word 2) [] Ended ≡ at_end 0
 repeat_empty = refl
@@ -67,7 +63,6 @@ repeat_short = refl
 
 repeat_waits : on_blocks (repeat_word 2) (codes "a" ∷ []) waiting ≡ gives_piece 1 (codes "a") (gives_piece 1 (codes "a") (waits_past 1))
 repeat_waits = refl
-
 
 -- `map`
 map_empty : on_blocks (map_word reversed) [] Ended ≡ at_end 0
@@ -85,7 +80,6 @@ map_suffix = refl
 map_waits : on_blocks (map_word (prefix (codes "+"))) (codes "a" ∷ []) waiting ≡ gives_piece 1 (codes "+a") (waits_past 1)
 map_waits = refl
 
-
 -- `intersperse`: nothing stands behind the last piece
 intersperse_empty : on_blocks (intersperse_word (codes "-")) [] Ended ≡ at_end 0
 intersperse_empty = refl
@@ -102,7 +96,6 @@ intersperse_waits = refl
 intersperse_texts : on_texts (intersperse_word (226 ∷ 130 ∷ 172 ∷ [])) (codes "a" ∷ codes "b" ∷ []) waiting ≡ gives_piece 1 (codes "a") (gives_piece 2 (8364 ∷ []) (gives_piece 2 (codes "b") (waits_past 2)))
 intersperse_texts = refl
 
-
 -- `drop`
 drop_empty : on_blocks (drop_word 2) [] Ended ≡ at_end 0
 drop_empty = refl
@@ -116,7 +109,6 @@ drop_waits = refl
 drop_ends : on_blocks (drop_word 2) (codes "a" ∷ codes "b" ∷ codes "c" ∷ []) waiting ≡ done_at 2 2 Value.Unit
 drop_ends = refl
 
-
 -- `dropWhile`
 drop_while_empty : on_blocks (drop_while_word empty) [] Ended ≡ at_end 0
 drop_while_empty = refl
@@ -129,7 +121,6 @@ drop_while_waits = refl
 
 drop_while_ends : on_blocks (drop_while_word empty) ([] ∷ codes "a" ∷ []) waiting ≡ done_at 2 1 Value.Unit
 drop_while_ends = refl
-
 
 -- `head`, `peek`, `last`
 head_empty : on_blocks head_word [] Ended ≡ done_at 1 0 absent
@@ -162,7 +153,6 @@ last_short = refl
 last_waits : on_blocks last_word (codes "a" ∷ []) waiting ≡ waits_past 1
 last_waits = refl
 
-
 -- `length`, `null`
 length_empty : on_blocks length_word [] Ended ≡ done_at 1 0 (Value.Num 0)
 length_empty = refl
@@ -181,7 +171,6 @@ null_waits = refl
 
 null_ends : on_blocks null_word ([] ∷ []) waiting ≡ done_at 1 0 (Value.Bool false)
 null_ends = refl
-
 
 -- `collect`
 collect_empty : on_blocks (collect_word 2) [] Ended ≡ done_at 1 0 (Value.ListV NoValues)

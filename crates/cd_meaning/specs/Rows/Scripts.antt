@@ -90,17 +90,14 @@ first_five_waits = refl
 first_five_empty : does first_five (ended []) ≡ Open 1 ∷ Close 1 ∷ []
 first_five_empty = refl
 
-
 -- `{ takeWhileE digit; dropE 1; passE }`
 digits_apart_does : does digits_apart (ended (codes "12x34")) ≡ Open 1 ∷ puts_at 2 (codes "1234") (Close 1 ∷ [])
 digits_apart_does = refl
-
 
 -- `lines 4 | length`: `abcd`, `abcd`, `ef`, an empty piece and `x`
 counts_lines : does (from_file (piped (lines_word 4) length_word)) (ended (codes "abcd\nabcdef\n\nx")) ≡ Open 1 ∷ Close 1 ∷ puts_at 0 (codes "= 5\n") []
 unfolding encode digits
 counts_lines = refl
-
 
 -- `exact 3`, and `chunksOf 3`
 counts_exact : does (from_file (piped (exact_word 3) length_word)) (ended (codes "abcdefg")) ≡ Open 1 ∷ Close 1 ∷ puts_at 0 (codes "= 2\n") []
@@ -111,7 +108,6 @@ counts_chunks : does (from_file (piped (chunks_of_word 3) length_word)) (ended (
 unfolding encode digits
 counts_chunks = refl
 
-
 -- `{ mapE xor 1 |= takeE 2; passE }`, and `{ pass | peek; pass }`
 keeps_leftovers_does : does keeps_leftovers (ended (codes "abcd")) ≡ Open 1 ∷ puts_at 2 (96 ∷ 99 ∷ 99 ∷ 100 ∷ []) (Close 1 ∷ [])
 keeps_leftovers_does = refl
@@ -119,12 +115,10 @@ keeps_leftovers_does = refl
 drops_leftovers_does : does drops_leftovers [] ≡ puts_at 1 (codes "b") []
 drops_leftovers_does = refl
 
-
 -- `{ take 1; length } |& head`
 counts_and_head_does : does counts_and_head [] ≡ puts_at 0 (codes "= (2, some \"a\")\n") []
 unfolding encode digits
 counts_and_head_does = refl
-
 
 -- `replicate 5 "x" |? drop 5`, and `drop 6`
 asks_for_five : does (asks_for 5) [] ≡ puts_at 0 (codes "= (none, ())\n") []
@@ -132,7 +126,6 @@ asks_for_five = refl
 
 asks_for_six : does (asks_for 6) [] ≡ puts_at 0 (codes "= (some (), ())\n") []
 asks_for_six = refl
-
 
 -- `base64Decode`, with and without the padding
 decodes_base64_does : does decodes_base64 (ended (codes "aGVsbG8=")) ≡ Open 1 ∷ puts_at 2 (codes "hello") (Close 1 ∷ [])
@@ -143,7 +136,6 @@ decodes_base64_short = refl
 
 decodes_base64_fault : ends_so decodes_base64 (ended (codes "aGVsbG8")) ≡ Halts (Stop (BadBase64 4))
 decodes_base64_fault = refl
-
 
 -- `utf8`: the fault is met only where it is asked for
 one_character_does : does one_character (ended (65 ∷ 255 ∷ [])) ≡ Open 1 ∷ Put 2 65 ∷ []
@@ -170,11 +162,9 @@ one_line_of_text_does : does one_line_of_text (ended (226 ∷ 130 ∷ 172 ∷ []
 unfolding encode
 one_line_of_text_does = refl
 
-
 -- `zipConduit(map suffix "+", repeat 2)`
 twice_beside_does : does twice_beside [] ≡ puts_at 1 (codes "1+112+223+33") []
 twice_beside_does = refl
-
 
 -- `tee(flat | stdout) | length`, and `range 1 3 | zipSink(length, take 1 | flat | stdout)`
 tees_does : does tees [] ≡ puts_at 1 (codes "ab") (puts_at 0 (codes "= 2\n") [])
@@ -184,7 +174,6 @@ tees_does = refl
 counts_and_first_does : does counts_and_first [] ≡ puts_at 1 (codes "1") (puts_at 0 (codes "= (3, ())\n") [])
 unfolding encode digits
 counts_and_first_does = refl
-
 
 -- a read fails, and a file is too long
 copy_broken : does (from_file stdout_word) (told_of 1 (codes "abcd") Broken ∷ []) ≡ Open 1 ∷ puts_at 2 (codes "abcd") []
@@ -202,22 +191,18 @@ copy_long_ends = refl
 copy_whole : does (from_file stdout_word) (ended (codes "abcd")) ≡ Open 1 ∷ puts_at 2 (codes "abcd") (Close 1 ∷ [])
 copy_whole = refl
 
-
 -- `filterE not space | base64Decode | sinkFile "out"`: the file that is written is opened first
 saves_decoded_does : does saves_decoded (ended (codes "Z m9\nv\n")) ≡ Open 2 ∷ Open 1 ∷ puts_at 2 (codes "foo") (Close 1 ∷ Close 2 ∷ [])
 saves_decoded_does = refl
-
 
 -- `|+ peek`
 returns_peeked : does (alone (piped_return (blocks_word (codes "a" ∷ codes "b" ∷ [])) peek_word)) [] ≡ puts_at 0 (codes "= (some \"a\", [\"a\"])\n") []
 returns_peeked = refl
 
-
 -- `zipSink(utf8Lenient | lengthE, lengthE)`
 counts_twice_does : does counts_twice (ended (226 ∷ 130 ∷ 172 ∷ 255 ∷ [])) ≡ Open 1 ∷ Close 1 ∷ puts_at 0 (codes "= (2, 4)\n") []
 unfolding encode digits
 counts_twice_does = refl
-
 
 -- `hexDecode`
 decodes_hex_lone : does decodes_hex (ended (codes "4a4")) ≡ Open 1 ∷ Put 2 74 ∷ Close 1 ∷ []
@@ -232,11 +217,9 @@ decodes_hex_bad = refl
 decodes_hex_bad_fault : ends_so decodes_hex (ended (codes "4G")) ≡ Halts (Stop (BadHex 0))
 decodes_hex_bad_fault = refl
 
-
 -- `mark "m" { sourceFile "a" } | { exactlyE 2 { sinkFile "x" }; stdout }`
 marked_sections_does : does marked_sections (told_of 2 (codes "abcd") AtEnd ∷ []) ≡ Open 3 ∷ Open 1 ∷ Open 2 ∷ puts_at 3 (codes "ab") (Close 3 ∷ puts_at 4 (codes "cd") (Close 2 ∷ Close 1 ∷ []))
 marked_sections_does = refl
-
 
 -- `blocks ["a", "b"] | exactly 5 { length }`
 counts_five : does (alone (piped (blocks_word (codes "a" ∷ codes "b" ∷ [])) (exactly_form 5 length_word))) [] ≡ puts_at 0 (codes "= 2\n") []

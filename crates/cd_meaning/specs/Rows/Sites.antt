@@ -23,7 +23,6 @@ source_file_broken = refl
 source_file_long : on_nothing source_file_word (seen_of (told_of 1 (codes "a") TooLong ∷ [])) ≡ does_at 0 0 (Open 1) (gives_elem 0 97 (stops_at 0 0 (Long 1)))
 source_file_long = refl
 
-
 -- `stdin` is neither opened nor closed
 stdin_empty : on_nothing stdin_word (seen_of (told_of 1 [] AtEnd ∷ [])) ≡ done_at 0 0 Value.Unit
 stdin_empty = refl
@@ -39,7 +38,6 @@ stdin_broken = refl
 
 stdin_long : on_nothing stdin_word (seen_of (told_of 1 (codes "a") TooLong ∷ [])) ≡ gives_elem 0 97 (stops_at 0 0 (Long 1))
 stdin_long = refl
-
 
 -- literals: the euro sign is three bytes and one character
 bytes_empty : on_nothing (bytes_word []) (seen_of []) ≡ done_at 0 0 Value.Unit
@@ -75,7 +73,6 @@ replicate_none = refl
 replicate_some : on_nothing (replicate_word 2 (codes "xy")) (seen_of []) ≡ gives_piece 0 (codes "xy") (gives_piece 0 (codes "xy") (done_at 0 0 Value.Unit))
 replicate_some = refl
 
-
 -- `range`: from the first to the last, both with it
 range_none : on_nothing (range_word 3 2) (seen_of []) ≡ done_at 0 0 Value.Unit
 range_none = refl
@@ -87,7 +84,6 @@ range_one = refl
 range_some : on_nothing (range_word 9 11) (seen_of []) ≡ gives_piece 0 (codes "9") (gives_piece 0 (codes "10") (gives_piece 0 (codes "11") (done_at 0 0 Value.Unit)))
 unfolding encode digits
 range_some = refl
-
 
 -- `sinkFile` opens before it asks, and closes at the end alone
 sink_file_empty : on_bytes sink_file_word [] Ended ≡ does_at 0 0 (Open 1) (does_at 1 0 (Close 1) (at_end 0))
@@ -102,7 +98,6 @@ sink_file_waits = refl
 sink_file_fault : on_bytes sink_file_word (codes "a") (Halted (Stop (BadText 4))) ≡ does_at 0 0 (Open 1) (does_at 1 1 (Put 1 97) (stops_at 2 1 (BadText 4)))
 sink_file_fault = refl
 
-
 -- `stdout`
 stdout_empty : on_bytes stdout_word [] Ended ≡ at_end 0
 stdout_empty = refl
@@ -112,7 +107,6 @@ stdout_short = refl
 
 stdout_waits : on_bytes stdout_word (codes "a") waiting ≡ does_at 1 1 (Put 1 97) (waits_past 1)
 stdout_waits = refl
-
 
 -- `mark` closes where its body is done, and its file comes before the body's sites
 mark_empty : on_bytes (mark_form pass_e) [] Ended ≡ does_at 0 0 (Open 1) (does_at 1 0 (Close 1) (at_end 0))

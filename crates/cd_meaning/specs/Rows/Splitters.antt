@@ -26,7 +26,6 @@ lines_last_full = refl
 lines_single : on_chars (lines_word 1) (8364 ∷ 10 ∷ 10 ∷ []) Ended ≡ gives_piece 1 (8364 ∷ []) (gives_piece 3 [] (at_end 3))
 lines_single = refl
 
-
 -- `split`
 split_empty : on_bytes (split_word 44 4) [] Ended ≡ at_end 0
 split_empty = refl
@@ -42,7 +41,6 @@ split_ends = refl
 
 split_only : on_chars (split_word 8364 4) (8364 ∷ 8364 ∷ []) Ended ≡ gives_piece 1 [] (gives_piece 2 [] (at_end 2))
 split_only = refl
-
 
 -- `exact` drops a short rest, `chunksOf` gives it
 exact_empty : on_bytes (exact_word 3) [] Ended ≡ at_end 0
@@ -71,7 +69,6 @@ chunks_of_full = refl
 
 chunks_of_single : on_bytes (chunks_of_word 1) (codes "ab") Ended ≡ gives_piece 1 (codes "a") (gives_piece 2 (codes "b") (at_end 2))
 chunks_of_single = refl
-
 
 -- `flat` and `unlines`
 flat_empty : on_blocks flat_word [] Ended ≡ at_end 0

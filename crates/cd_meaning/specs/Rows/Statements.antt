@@ -50,7 +50,6 @@ nothing_does = refl
 nothing_ends : ends_so [] [] ≡ Done Value.Unit
 nothing_ends = refl
 
-
 -- `let s = seal sourceFile "a"; feed s | exactlyE 3 { stdout }; feed s | headE; close s | lengthE;`
 three_sinks_does : does three_sinks (told_of 1 (codes "abcdefgh") AtEnd ∷ []) ≡ Open 1 ∷ puts_at 2 (codes "abc") (puts_at 0 (codes "= some 100\n") (Close 1 ∷ puts_at 0 (codes "= 4\n") []))
 unfolding encode digits
@@ -68,7 +67,6 @@ three_sinks_empty : does three_sinks (told_of 1 [] AtEnd ∷ []) ≡ Open 1 ∷ 
 unfolding encode digits
 three_sinks_empty = refl
 
-
 -- nothing of a source is run before it is fed
 sealed_alone : does (let_statement s file_source ∷ []) (told_of 1 (codes "a") AtEnd ∷ []) ≡ []
 sealed_alone = refl
@@ -76,24 +74,20 @@ sealed_alone = refl
 fed_nothing : does (let_statement s file_source ∷ feed_statement s (take_e 0) ∷ []) (told_of 1 (codes "a") AtEnd ∷ []) ≡ []
 fed_nothing = refl
 
-
 -- three sinks `lineE { lengthE }`
 three_lines_does : does three_lines (told_of 1 (codes "ab\nc") AtEnd ∷ []) ≡ Open 1 ∷ puts_at 0 (codes "= 2\n") (Close 1 ∷ puts_at 0 (codes "= 1\n= 0\n") [])
 unfolding encode digits
 three_lines_does = refl
-
 
 -- what `peekE` gave back stands in front
 peeks_does : does peeks (told_of 1 (codes "ab") AtEnd ∷ []) ≡ Open 1 ∷ puts_at 0 (codes "= some 97\n= some 97\n= some 98\n") []
 unfolding encode digits
 peeks_does = refl
 
-
 -- the sort of a sealed source comes to its sinks
 texts_sealed_does : does texts_sealed (told_of 1 (codes "hello") AtEnd ∷ []) ≡ Open 1 ∷ puts_at 0 (codes "= some \"h\"\n") (Close 1 ∷ puts_at 0 (codes "= \"ello\"\n") [])
 unfolding encode
 texts_sealed_does = refl
-
 
 -- two names
 two_seals_does : does two_seals (told_of 1 (codes "ab") AtEnd ∷ told_of 2 (codes "01") AtEnd ∷ []) ≡ puts_at 0 (codes "= some 48\n") (Open 1 ∷ puts_at 0 (codes "= some 97\n= some 49\n") [])
@@ -106,14 +100,12 @@ two_keys_does = refl
 held_alone : does (hold_statement s ∷ release_statement s ∷ []) [] ≡ Open 1 ∷ Close 1 ∷ []
 held_alone = refl
 
-
 -- `zipSource` behind two keys: the first file ends first, and the second one's end is not asked for
 held_and_zipped_does : does held_and_zipped (told_of 3 (codes "x\n") AtEnd ∷ told_of 4 (codes "1\n2\n") AtEnd ∷ []) ≡ Open 1 ∷ Open 2 ∷ Open 3 ∷ Open 4 ∷ puts_at 5 (codes "x:1\n") (Close 3 ∷ [])
 held_and_zipped_does = refl
 
 held_and_zipped_ends : ends_so held_and_zipped (told_of 3 (codes "x\n") AtEnd ∷ told_of 4 (codes "1\n2\n") AtEnd ∷ []) ≡ Done Value.Unit
 held_and_zipped_ends = refl
-
 
 -- the script of `demo`, on three lines and on one
 demo_three : does demo_script (told_of 1 (codes "1a\n2aa\n3aaa\n") AtEnd ∷ told_of 2 (codes "1a\n2aa\n3aaa\n") AtEnd ∷ []) ≡ Open 1 ∷ puts_at 0 (codes "= 2\n") (Close 1 ∷ puts_at 0 (codes "= (9, 2)\n") (Open 2 ∷ Close 2 ∷ puts_at 0 (codes "= 12\n") []))
@@ -123,7 +115,6 @@ demo_three = refl
 demo_one : does demo_script (told_of 1 (codes "1a\n") AtEnd ∷ told_of 2 (codes "1a\n") AtEnd ∷ []) ≡ Open 1 ∷ puts_at 0 (codes "= 2\n") (Close 1 ∷ puts_at 0 (codes "= (0, 0)\n") (Open 2 ∷ Close 2 ∷ puts_at 0 (codes "= 3\n") []))
 unfolding encode digits
 demo_one = refl
-
 
 -- a statement's sites follow those of the statements before; the first that is not done ends the script
 two_runs_does : does two_runs (told_of 1 (codes "ab") AtEnd ∷ told_of 2 (codes "c") AtEnd ∷ []) ≡ Open 1 ∷ Close 1 ∷ puts_at 0 (codes "= 2\n") (Open 2 ∷ puts_at 3 (codes "c") (Close 2 ∷ []))

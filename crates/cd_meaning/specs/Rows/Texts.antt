@@ -18,7 +18,6 @@ utf8_waits = refl
 utf8_waits_whole : on_bytes utf8_word (97 ∷ []) waiting ≡ gives_elem 1 97 (waits_past 1)
 utf8_waits_whole = refl
 
-
 -- the first and the last character of each length
 utf8_one : on_bytes utf8_word (0 ∷ 127 ∷ []) Ended ≡ gives_elem 1 0 (gives_elem 2 127 (at_end 2))
 utf8_one = refl
@@ -37,7 +36,6 @@ utf8_before_surrogates = refl
 
 utf8_after_surrogates : on_bytes utf8_word (238 ∷ 128 ∷ 128 ∷ []) Ended ≡ gives_elem 3 57344 (at_end 3)
 utf8_after_surrogates = refl
-
 
 -- bytes that begin nothing, and bytes that go nowhere
 utf8_bad_first : on_bytes utf8_word (65 ∷ 255 ∷ []) Ended ≡ gives_elem 1 65 (stops_at 2 2 (BadText 1))
@@ -64,14 +62,12 @@ utf8_past_last = refl
 utf8_bad_later : on_bytes utf8_word (226 ∷ 130 ∷ 65 ∷ []) Ended ≡ stops_at 3 3 (BadText 0)
 utf8_bad_later = refl
 
-
 -- an unfinished character at the end
 utf8_unfinished : on_bytes utf8_word (65 ∷ 226 ∷ 130 ∷ []) Ended ≡ gives_elem 1 65 (stops_at 4 3 (BadText 1))
 utf8_unfinished = refl
 
 utf8_unfinished_fault : on_bytes utf8_word (65 ∷ 226 ∷ []) (Halted (Stop (ReadBad 4))) ≡ gives_elem 1 65 (stops_at 3 2 (ReadBad 4))
 utf8_unfinished_fault = refl
-
 
 -- `utf8Lenient`: U+FFFD is 65533
 lenient_empty : on_bytes utf8_lenient_word [] Ended ≡ at_end 0
@@ -100,7 +96,6 @@ lenient_surrogate = refl
 
 lenient_unfinished : on_bytes utf8_lenient_word (65 ∷ 226 ∷ 130 ∷ []) Ended ≡ gives_elem 1 65 (late_elem 3 65533 (at_end 3))
 lenient_unfinished = refl
-
 
 -- `utf8Encode`
 encode_empty : on_chars utf8_encode_word [] Ended ≡ at_end 0

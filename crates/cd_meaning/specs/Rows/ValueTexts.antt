@@ -26,7 +26,6 @@ byte_text : value_text (Value.Byte 104) ≡ codes "104"
 unfolding encode digits
 byte_text = refl
 
-
 -- 8364 is the euro sign, of three bytes
 char_text : value_text (Value.Char 8364) ≡ 34 ∷ 226 ∷ 130 ∷ 172 ∷ 34 ∷ []
 unfolding encode
