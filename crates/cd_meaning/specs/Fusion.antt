@@ -99,18 +99,18 @@ abbrev pub both : Value → Value → Value
 both Value.Unit Value.Unit = Value.Unit
 both u v = Value.Pair u v
 
-abbrev pub upper : Value → Value → Value
-upper u v = u
+abbrev pub first_value : Value → Value → Value
+first_value u v = u
 
-abbrev pub lower : Value → Value → Value
-lower u v = v
+abbrev pub second_value : Value → Value → Value
+second_value u v = v
 
 -- `|&` and `|<`
 abbrev pub fuse_both : Component → Component → Component
 fuse_both = fuse_drained both
 
 abbrev pub fuse_up : Component → Component → Component
-fuse_up = fuse_drained upper
+fuse_up = fuse_drained first_value
 
 -- `|?`: b asked for j of n outputs
 abbrev pub asked : ℕ → ℕ → Ending → Value → Value
@@ -127,7 +127,7 @@ fuse_asked = fuse_by told
 
 -- `exactly` and `exactlyE`
 abbrev pub exactly : ℕ → Component → Component
-exactly n = fuse_drained lower (taken n)
+exactly n = fuse_drained second_value (taken n)
 
 -- the elements before the first newline, which is taken too
 abbrev pub one_line : Component
@@ -137,7 +137,7 @@ one_line xs e =
     each passes 0 line (if k == length xs then past k e Value.Unit else Ends (stamp (suc k) (suc k)) (Done Value.Unit))
 
 abbrev pub line : Component → Component
-line = fuse_drained lower one_line
+line = fuse_drained second_value one_line
 
 -- ---- sequence
 
