@@ -4,7 +4,9 @@ use Rattle.std.proofs.lemmas.Bool.{le-leb, lt-leb}
 use Rattle.std.proofs.lemmas.List.{append-nil, length-append, take_all, take-append-le}
 use Rattle.cd_meaning.specs.Stream.{Item, Elem, Value, Ended, Done, Act, Do, Effect, Open, Put, Close, Halts, More, Reading}
 use Rattle.cd_meaning.specs.Run.{Stamp, start, Run, Then, Ends, Component, outs, end_of, outs_at, effects, ending, acts_at}
-use Rattle.cd_meaning.specs.Words.{passes, unit_of, taken, Mark, AtEnd, MayGoOn, Broken, TooLong, Told, Seen, source_file, file_end, puts, stdout}
+use Rattle.cd_meaning.specs.Words.{passes, unit_of, Mark, AtEnd, MayGoOn, Broken, TooLong, Told, Seen}
+use Rattle.cd_meaning.specs.ElementWords.{taken}
+use Rattle.cd_meaning.specs.Sources.{source_file, file_end, puts, stdout}
 use Rattle.cd_meaning.specs.Fusion.{fuse, fuse_at, fed}
 use Rattle.cd_meaning.specs.Meaning.{goes_on, value_puts}
 use Rattle.cd_meaning.specs.TakeForm.{form_run, close_of, front_effects, front_ending, puts_of, whole_file, bytes_put}

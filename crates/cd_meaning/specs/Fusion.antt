@@ -1,7 +1,9 @@
--- Plain fusion: two whole runs, put together by index.
-use Rattle.std.specs.Prelude.{ℕ, zero, suc}
-use Rattle.cd_meaning.specs.Stream.{Value, Done, Halts, Out, Do}
-use Rattle.cd_meaning.specs.Run.{Stamp, start, Run, Then, Ends, Component, outs, end_of}
+-- Fusion, sequence and sections: whole runs, put together by index.
+use Rattle.std.specs.Prelude.{ℕ, zero, suc, ◌+◌, ◌==◌, nat_lt, max, not, if◌then◌else◌, List, length, take, drop}
+use Rattle.cd_meaning.specs.Stream.{Item, Value, absent, present, Ending, Done, Halts, Out, Do}
+use Rattle.cd_meaning.specs.Run.{Stamp, stamp, start, Run, Then, Ends, Component, outs, ending, end_of, restamp, follow, past}
+use Rattle.cd_meaning.specs.Words.{each, passes, front, number}
+use Rattle.cd_meaning.specs.ElementWords.{taken}
 
 -- A[j] is what stands in a up to and with its j-th Out, and all of a where it has fewer.
 
@@ -51,3 +53,97 @@ fuse_at s a b = woven (λ j. place s j a) (λ t v. Ends (place s t.need a) (Done
 
 abbrev pub fuse : Component → Component → Component
 fuse a b xs e = fuse_at start (a xs e) (fed (a xs e) b)
+
+-- ---- `|=`
+
+-- the weave with b's own stamps
+abbrev pub kept_stamps : Run → ℕ → Run → Run
+kept_stamps a i (Then t act b) = between i t.need a (Then t act (kept_stamps a t.need b))
+kept_stamps a i (Ends t e) = between i t.need a (Ends t e)
+
+abbrev pub fuse_keep : Component → Component → Component
+fuse_keep a b xs e = let r = a xs e in kept_stamps r 0 (fed r b)
+
+-- ---- results: what the weave's Done becomes
+
+-- the weave of r and b, where b's Done is as finish says
+abbrev pub fuse_by : (Run → Stamp → Value → Run) → Component → Component → Component
+fuse_by finish a b xs e = let r = a xs e in woven (λ j. place start j r) (finish r) r 0 (fed r b)
+
+-- the outputs after the k-th and up to the j-th
+abbrev pub outs_between : ℕ → ℕ → Run → List Item
+outs_between k j a = drop k (take j (outs a))
+
+-- `|+`: list is what a list of a's outputs is as a result
+abbrev pub returned : (List Item → Value) → Run → Stamp → Value → Run
+returned list r t v = Ends (place start t.need r) (Done (Value.Pair v (list (outs_between t.net t.need r))))
+
+abbrev pub fuse_return : (List Item → Value) → Component → Component → Component
+fuse_return list = fuse_by (returned list)
+
+-- the effects of a, and its ending with the value that pair makes of its own
+abbrev pub drain : (Value → Value) → Run → Run
+drain pair (Then s (Out x) a) = drain pair a
+drain pair (Then s (Do e) a) = Then s (Do e) (drain pair a)
+drain pair (Ends s (Done v)) = Ends s (Done (pair v))
+drain pair (Ends s (Halts h)) = Ends s (Halts h)
+
+abbrev pub drained : (Value → Value → Value) → Run → Stamp → Value → Run
+drained pair r t v = drain (λ u. pair u v) (after t.need r)
+
+abbrev pub fuse_drained : (Value → Value → Value) → Component → Component → Component
+fuse_drained pair = fuse_by (drained pair)
+
+-- both values, the first alone, the second alone
+abbrev pub both : Value → Value → Value
+both Value.Unit Value.Unit = Value.Unit
+both u v = Value.Pair u v
+
+abbrev pub first_value : Value → Value → Value
+first_value u v = u
+
+abbrev pub second_value : Value → Value → Value
+second_value u v = v
+
+-- `|&` and `|<`
+abbrev pub fuse_both : Component → Component → Component
+fuse_both = fuse_drained both
+
+abbrev pub fuse_up : Component → Component → Component
+fuse_up = fuse_drained first_value
+
+-- `|?`: b asked for j of n outputs
+abbrev pub asked : ℕ → ℕ → Ending → Value → Value
+asked j n (Done u) v = Value.Pair (if nat_lt n j then present u else absent) v
+asked j n (Halts h) v = Value.Pair absent v
+
+abbrev pub told : Run → Stamp → Value → Run
+told r t v = Ends (place start t.need r) (Done (asked t.need (length (outs r)) (ending r) v))
+
+abbrev pub fuse_asked : Component → Component → Component
+fuse_asked = fuse_by told
+
+-- ---- sections of the input
+
+-- `exactly` and `exactlyE`
+abbrev pub exactly : ℕ → Component → Component
+exactly n = fuse_drained second_value (taken n)
+
+-- the elements before the first newline, which is taken too
+abbrev pub one_line : Component
+one_line xs e =
+    let line = front (λ x. not (number x == 10)) xs in
+    let k = length line in
+    each passes 0 line (if k == length xs then past k e Value.Unit else Ends (stamp (suc k) (suc k)) (Done Value.Unit))
+
+abbrev pub line : Component → Component
+line = fuse_drained second_value one_line
+
+-- ---- sequence
+
+-- a stamp of the second part, where the first ended at s
+abbrev pub behind : Stamp → Stamp → Stamp
+behind s t = stamp (max s.need (s.net + t.need)) (s.net + t.net)
+
+abbrev pub sequence : Component → Component → Component
+sequence a b xs e = follow (a xs e) (λ s v. restamp (behind s) (b (drop s.net xs) e))

@@ -1,4 +1,16 @@
--- Worked rows of the form, by computation.
+-- Worked rows by computation: here those of one form, below those of each family of words, of forms and of scripts.
+pub mod Bases
+pub mod Classes
+pub mod Elements
+pub mod Forms
+pub mod Given
+pub mod Pieces
+pub mod Scripts
+pub mod Sites
+pub mod Splitters
+pub mod Statements
+pub mod Texts
+pub mod ValueTexts
 use Rattle.std.specs.Prelude.{ℕ, ◌≡◌, refl, List, [], ◌∷◌, codes}
 use Rattle.cd_meaning.specs.Stream.{Value, More, Stop, Reading, ReadBad, Done, Halts, Open, Put, Close}
 use Rattle.cd_meaning.specs.Run.{effects, ending}

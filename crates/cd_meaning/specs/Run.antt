@@ -59,6 +59,12 @@ abbrev pub restamp : (Stamp → Stamp) → Run → Run
 restamp f (Then s a r) = Then (f s) a (restamp f r)
 restamp f (Ends s e) = Ends (f s) e
 
+-- the run, with what k makes of the stamp and the value in place of an ending that is Done
+abbrev pub follow : Run → (Stamp → Value → Run) → Run
+follow (Then s a r) k = Then s a (follow r k)
+follow (Ends s (Done v)) k = k s v
+follow (Ends s (Halts h)) k = Ends s (Halts h)
+
 -- asked past the last of n values
 abbrev pub past : ℕ → End → Value → Run
 past n Ended v = Ends (stamp (suc n) n) (Done v)

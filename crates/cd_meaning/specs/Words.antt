@@ -1,7 +1,7 @@
--- The run of each word on a whole list.
-use Rattle.std.specs.Prelude.{ℕ, suc, nat_le, if◌then◌else◌, List, [], ◌∷◌, length, take, map}
-use Rattle.cd_meaning.specs.Stream.{Item, Elem, Piece, Value, More, Stop, Reading, ReadBad, Long, Done, Halts, Act, Out, Do, Open, Put, Close}
-use Rattle.cd_meaning.specs.Run.{stamp, start, Run, Then, Ends, Component, acts_at, outs_at, past}
+-- Shapes of words' runs, and what is known of the sites that read.
+use Rattle.std.specs.Prelude.{ℕ, suc, ◌==◌, nat_le, Bool, if◌then◌else◌, List, [], ◌∷◌, length, take, map}
+use Rattle.cd_meaning.specs.Stream.{Item, Elem, Piece, Value, Done, Act, Out}
+use Rattle.cd_meaning.specs.Run.{stamp, Run, Ends, Component, acts_at, past}
 
 -- the acts of the i-th value at (i, i), for each value, where i values stand before; and what comes behind them
 abbrev pub each : (Item → List Act) → ℕ → List Item → Run → Run
@@ -16,6 +16,10 @@ each_to_end f xs e = each f 0 xs (past (length xs) e Value.Unit)
 abbrev pub passes : Item → List Act
 passes x = Out x ∷ []
 
+-- no act
+abbrev pub drops : Item → List Act
+drops x = []
+
 -- what a word does with the first n values, and its value of them
 abbrev pub first : ℕ → (Item → List Act) → (List Item → Value) → Component
 first n f v xs e =
@@ -24,8 +28,40 @@ first n f v xs e =
 abbrev pub unit_of : List Item → Value
 unit_of xs = Value.Unit
 
-abbrev pub taken : ℕ → Component
-taken n = first n passes unit_of
+-- the longest front of values that pass
+abbrev pub front : (Item → Bool) → List Item → List Item
+front p [] = []
+front p (x ∷ xs) = if p x then x ∷ front p xs else []
+
+-- what a word does with the longest front of values that pass; it gives the next one back
+abbrev pub while : (Item → Bool) → (Item → List Act) → Component
+while p f xs e =
+    let k = length (front p xs) in
+    each f 0 (front p xs) (if k == length xs then past k e Value.Unit else Ends (stamp (suc k) k) (Done Value.Unit))
+
+-- a word that gives nothing and answers of the whole input
+abbrev pub whole : (List Item → Value) → Component
+whole v xs e = past (length xs) e (v xs)
+
+-- the number of an element, and the elements of a piece
+abbrev pub number : Item → ℕ
+number (Elem n) = n
+number (Piece xs) = 0
+
+abbrev pub elements : Item → List ℕ
+elements (Elem n) = []
+elements (Piece xs) = xs
+
+-- elements as one piece
+abbrev pub piece : List Item → Item
+piece xs = Piece (map number xs)
+
+-- numbers as elements that are given
+abbrev pub elements_out : List ℕ → List Act
+elements_out [] = []
+elements_out (n ∷ ns) = Out (Elem n) ∷ elements_out ns
+
+-- ---- sites
 
 -- what is known behind the bytes that a reading site gave: it has no more, or may give more, or its next read fails, or it is longer than a source may be
 pub data Mark : Type 0 where
@@ -42,22 +78,3 @@ pub record Told : Type 0 where
 -- of each site, by its number
 abbrev pub Seen : Type 0
 Seen = ℕ → Told
-
--- behind the bytes of the file at site s
-abbrev pub file_end : ℕ → Mark → Run
-file_end s AtEnd = Then start (Do (Close s)) (Ends start (Done Value.Unit))
-file_end s MayGoOn = Ends start (Halts (More (Reading s)))
-file_end s Broken = Ends start (Halts (Stop (ReadBad s)))
-file_end s TooLong = Ends start (Halts (Stop (Long s)))
-
--- it opens the file, gives its bytes, and closes it at its end
-abbrev pub source_file : ℕ → Told → Component
-source_file s t xs e = Then start (Do (Open s)) (outs_at start (map Elem t.bytes) (file_end s t.mark))
-
--- the site s puts each element
-abbrev pub puts : ℕ → Item → List Act
-puts s (Elem x) = Do (Put s x) ∷ []
-puts s (Piece xs) = []
-
-abbrev pub stdout : ℕ → Component
-stdout s = each_to_end (puts s)
