@@ -278,12 +278,13 @@ def script_lines(line, case):
     lines = ["-- " + text for text in case["script"].splitlines()]
     lines += [f"abbrev {name} : List Statement"]
     lines += line_of(f"{name} = {unwrapped(listed([unwrapped(statement(s)) for s in case['tree']]))}")
+    lines.append("")
     for number, one in enumerate(case["runs"], 1):
         left = f"(script_run value_text {seen(one['seen'])} {name})"
         for what, right in (("effects", effects(one["effects"])), ("ending", ending(one["end"]))):
             lemma = f"{name}_{what}_{number}"
-            lines += [*line_of(f"{lemma} : {what} {left} ≡ {unwrapped(right)}"), "unfolding digits encode", f"{lemma} = refl"]
-    return lines + [""]
+            lines += [*line_of(f"{lemma} : {what} {left} ≡ {unwrapped(right)}"), "unfolding digits encode", f"{lemma} = refl", ""]
+    return lines
 
 
 IMPORTS = [
@@ -315,7 +316,7 @@ def used_imports(lines):
     for module, names in IMPORTS:
         kept = [name for name in names.split() if name.strip("◌") in used]
         if kept:
-            yield from line_of(f"use {module}.{{{', '.join(kept)}}}")
+            yield f"use {module}.{{{', '.join(kept)}}}"
 
 
 def write_modules(out, kind, groups, most):
@@ -323,7 +324,7 @@ def write_modules(out, kind, groups, most):
     header = f"-- Cases of tools/cases/{kind.lower()}.jsonl, written by tools/cases.py: the number in a name is the line of the case."
     for old in out.glob(f"{kind}[0-9]*.antt"):
         old.unlink()
-    room = most - 30
+    room = most - 15
     modules, here = [], []
     for group in groups:
         if here and len(here) + len(group) > room:
@@ -371,7 +372,7 @@ def main():
     parser.add_argument("--all", action="store_true")
     parser.add_argument("--words", type=lines_in)
     parser.add_argument("--scripts", type=lines_in)
-    parser.add_argument("--per", type=int, default=480)
+    parser.add_argument("--per", type=int, default=490)
     parser.add_argument("out", type=Path)
     options = parser.parse_args()
     options.out.mkdir(parents=True, exist_ok=True)

@@ -7,4 +7,3 @@ pub mod Scripts4
 pub mod Scripts5
 pub mod Words1
 pub mod Words2
-pub mod Words3

@@ -1,13 +1,9 @@
 -- Cases of tools/cases/words.jsonl, written by tools/cases.py: the number in a name is the line of the case.
 use Rattle.std.specs.Prelude.{[], ◌∷◌, ◌≡◌, refl, codes, map, true, false}
-use Rattle.cd_meaning.specs.Stream.{Sort, Elem, Piece, Value, absent, present, NoValues, Another, Reading, More, Stop, BadHex, BadBase64, Ended,
-    Halted, Done, Halts, Out}
+use Rattle.cd_meaning.specs.Stream.{Sort, Elem, Piece, Value, absent, present, NoValues, Another, Reading, More, Stop, BadHex, BadBase64, Ended, Halted, Done, Halts, Out}
 use Rattle.cd_meaning.specs.Run.{stamp, Then, Ends}
-use Rattle.cd_meaning.specs.Classes.{digit, upper, lower, alpha, alnum, hexdigit, space, newline, is_scalar, below, empty, begins, ends, shorter,
-    not_class, not_test}
-use Rattle.cd_meaning.specs.Meaning.{filter_e, drop_e, drop_while_e, head_e, all_e, any_e, collect_e, filter_word, intersperse_word, drop_word,
-    drop_while_word, head_word, last_word, collect_word, exact_word, chunks_of_word, flat_word, hex_encode_word, hex_decode_word, base64_encode_word,
-    base64_decode_word}
+use Rattle.cd_meaning.specs.Classes.{digit, upper, lower, alpha, alnum, hexdigit, space, newline, is_scalar, below, empty, begins, ends, shorter, not_class, not_test}
+use Rattle.cd_meaning.specs.Meaning.{filter_e, drop_e, drop_while_e, head_e, last_e, all_e, any_e, collect_e, filter_word, intersperse_word, drop_word, drop_while_word, head_word, last_word, length_word, collect_word, exact_word, chunks_of_word, flat_word, hex_encode_word, hex_decode_word, base64_encode_word, base64_decode_word}
 use Rattle.cd_meaning.specs.cases.Known.{word_run}
 
 -- allE digit
@@ -458,3 +454,29 @@ word_161 = refl
 word_162 : word_run last_word Sort.Text (map Piece ((codes "0") ∷ [] ∷ (233 ∷ 71 ∷ []) ∷ (71 ∷ 71 ∷ 233 ∷ []) ∷ [] ∷ [])) (Halted (More (Reading 1)))
     ≡ Ends (stamp 6 5) (Halts (More (Reading 1)))
 word_162 = refl
+
+-- last
+word_163 : word_run last_word Sort.Block (map Piece ([] ∷ (codes "0") ∷ [])) Ended ≡ Ends (stamp 3 2) (Done (present (Value.BytesV (codes "0"))))
+word_163 = refl
+
+-- lastE
+word_169 : word_run last_e Sort.Chars (map Elem (98 ∷ 48 ∷ 128512 ∷ 13 ∷ 98 ∷ 65 ∷ 71 ∷ 128512 ∷ 97 ∷ [])) Ended ≡ Ends (stamp 10 9) (Done (present
+    (Value.Char 97)))
+word_169 = refl
+
+-- lastE
+word_170 : word_run last_e Sort.Bytes (map Elem (32 ∷ 49 ∷ 226 ∷ 130 ∷ 97 ∷ 52 ∷ 65 ∷ [])) Ended ≡ Ends (stamp 8 7) (Done (present (Value.Byte 65)))
+word_170 = refl
+
+-- lastE
+word_171 : word_run last_e Sort.Chars (map Elem (32 ∷ [])) Ended ≡ Ends (stamp 2 1) (Done (present (Value.Char 32)))
+word_171 = refl
+
+-- lastE
+word_172 : word_run last_e Sort.Chars [] Ended ≡ Ends (stamp 1 0) (Done absent)
+word_172 = refl
+
+-- length
+word_177 : word_run length_word Sort.Text (map Piece ((48 ∷ 233 ∷ 98 ∷ []) ∷ (codes "AG") ∷ (codes "1") ∷ (13 ∷ []) ∷ [])) Ended ≡ Ends (stamp 5 4)
+    (Done (Value.Num 4))
+word_177 = refl

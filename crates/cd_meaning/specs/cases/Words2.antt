@@ -1,40 +1,11 @@
 -- Cases of tools/cases/words.jsonl, written by tools/cases.py: the number in a name is the line of the case.
 use Rattle.std.specs.Prelude.{[], ◌∷◌, ◌≡◌, refl, codes, map, true, false}
 use lib.Utf8.{encode}
-use Rattle.cd_meaning.specs.Stream.{Sort, Elem, Piece, Value, absent, present, Reading, More, Stop, BadText, BadHex, Ended, Halted, Done, Halts, Out,
-    Do, Open, Put, Close}
+use Rattle.cd_meaning.specs.Stream.{Sort, Elem, Piece, Value, absent, present, Reading, More, Stop, BadText, BadHex, Ended, Halted, Done, Halts, Out, Do, Open, Put, Close}
 use Rattle.cd_meaning.specs.Run.{stamp, Then, Ends}
 use Rattle.cd_meaning.specs.Classes.{digit, lower, is_scalar, empty, ends, xor, add, rot13, prefix, suffix, reversed, not_test}
-use Rattle.cd_meaning.specs.Meaning.{pass_e, take_e, take_while_e, map_e, repeat_e, peek_e, last_e, length_e, sum_e, null_e, sink_null, pass_word,
-    take_word, take_while_word, repeat_word, map_word, peek_word, last_word, length_word, null_word, lines_word, split_word, unlines_word, utf8_word,
-    utf8_encode_word, sink_file_word, stdout_word}
+use Rattle.cd_meaning.specs.Meaning.{pass_e, take_e, take_while_e, map_e, repeat_e, peek_e, length_e, sum_e, null_e, sink_null, pass_word, take_word, take_while_word, repeat_word, map_word, peek_word, length_word, null_word, lines_word, split_word, unlines_word, utf8_word, utf8_lenient_word, utf8_encode_word, sink_file_word, stdout_word}
 use Rattle.cd_meaning.specs.cases.Known.{word_run}
-
--- last
-word_163 : word_run last_word Sort.Block (map Piece ([] ∷ (codes "0") ∷ [])) Ended ≡ Ends (stamp 3 2) (Done (present (Value.BytesV (codes "0"))))
-word_163 = refl
-
--- lastE
-word_169 : word_run last_e Sort.Chars (map Elem (98 ∷ 48 ∷ 128512 ∷ 13 ∷ 98 ∷ 65 ∷ 71 ∷ 128512 ∷ 97 ∷ [])) Ended ≡ Ends (stamp 10 9) (Done (present
-    (Value.Char 97)))
-word_169 = refl
-
--- lastE
-word_170 : word_run last_e Sort.Bytes (map Elem (32 ∷ 49 ∷ 226 ∷ 130 ∷ 97 ∷ 52 ∷ 65 ∷ [])) Ended ≡ Ends (stamp 8 7) (Done (present (Value.Byte 65)))
-word_170 = refl
-
--- lastE
-word_171 : word_run last_e Sort.Chars (map Elem (32 ∷ [])) Ended ≡ Ends (stamp 2 1) (Done (present (Value.Char 32)))
-word_171 = refl
-
--- lastE
-word_172 : word_run last_e Sort.Chars [] Ended ≡ Ends (stamp 1 0) (Done absent)
-word_172 = refl
-
--- length
-word_177 : word_run length_word Sort.Text (map Piece ((48 ∷ 233 ∷ 98 ∷ []) ∷ (codes "AG") ∷ (codes "1") ∷ (13 ∷ []) ∷ [])) Ended ≡ Ends (stamp 5 4)
-    (Done (Value.Num 4))
-word_177 = refl
 
 -- length
 word_178 : word_run length_word Sort.Block [] Ended ≡ Ends (stamp 1 0) (Done (Value.Num 0))
@@ -457,3 +428,25 @@ word_370 : word_run utf8_encode_word Sort.Chars (map Elem (32 ∷ 13 ∷ 13 ∷ 
     13)) (Then (stamp 3 3) (Out (Elem 13)) (Ends (stamp 4 3) (Done Value.Unit))))
 unfolding encode
 word_370 = refl
+
+-- utf8Encode
+word_371 : word_run utf8_encode_word Sort.Chars (map Elem (codes "G0")) Ended ≡ Then (stamp 1 1) (Out (Elem 71)) (Then (stamp 2 2) (Out (Elem 48))
+    (Ends (stamp 3 2) (Done Value.Unit)))
+unfolding encode
+word_371 = refl
+
+-- utf8Lenient
+word_377 : word_run utf8_lenient_word Sort.Bytes (map Elem (32 ∷ 10 ∷ 48 ∷ 98 ∷ 130 ∷ 71 ∷ 52 ∷ [])) Ended ≡ Then (stamp 1 1) (Out (Elem 32)) (Then
+    (stamp 2 2) (Out (Elem 10)) (Then (stamp 3 3) (Out (Elem 48)) (Then (stamp 4 4) (Out (Elem 98)) (Then (stamp 5 5) (Out (Elem 65533)) (Then (stamp
+    6 6) (Out (Elem 71)) (Then (stamp 7 7) (Out (Elem 52)) (Ends (stamp 8 7) (Done Value.Unit))))))))
+word_377 = refl
+
+-- utf8Lenient
+word_378 : word_run utf8_lenient_word Sort.Bytes (map Elem (195 ∷ 169 ∷ 226 ∷ 130 ∷ 172 ∷ 226 ∷ 130 ∷ [])) (Halted (More (Reading 1))) ≡ Then (stamp 2
+    2) (Out (Elem 233)) (Then (stamp 5 5) (Out (Elem 8364)) (Ends (stamp 8 7) (Halts (More (Reading 1)))))
+word_378 = refl
+
+-- utf8Lenient
+word_379 : word_run utf8_lenient_word Sort.Bytes (map Elem (13 ∷ 255 ∷ 13 ∷ 98 ∷ [])) Ended ≡ Then (stamp 1 1) (Out (Elem 13)) (Then (stamp 2 2) (Out
+    (Elem 65533)) (Then (stamp 3 3) (Out (Elem 13)) (Then (stamp 4 4) (Out (Elem 98)) (Ends (stamp 5 4) (Done Value.Unit)))))
+word_379 = refl
