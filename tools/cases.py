@@ -6,9 +6,8 @@ usage: tools/cases.py [--all] [--words LINES] [--scripts LINES] [--per MODULE_LI
 Without a choice a selection is written: each word, form, operator, statement,
 class, mark and fault that the cases have stands in at least three of them, where
 there are so many. --all writes each case. LINES are numbers of lines, as 3,8-12,
-or `none`. OUT is a folder: Words1.antt, Scripts1.antt and
-so on are written there, and files of such names that were there are removed.
-OUT.antt names them.
+or `none`. OUT is a folder: Words1.antt, Scripts1.antt and so on are written there,
+and files of such names that were there are removed. OUT.antt names them.
 """
 
 import argparse
@@ -256,7 +255,7 @@ def seen(sites):
 
 # ---- modules
 
-def line_of(text):
+def wrapped(text):
     """One declaration, with the lines behind its first indented."""
     return textwrap.wrap(text, WIDTH, subsequent_indent="    ", break_long_words=False, break_on_hyphens=False)
 
@@ -270,20 +269,20 @@ def word_lines(line, case):
     name = f"word_{line}"
     left = f"word_run {word(case['word'])} Sort.{case['sort']} {items(case['input'])} {end(case['end'])}"
     opened = ["unfolding encode"] if "utf8_encode_word" in left else []
-    return [f"-- {case['text']}", *line_of(f"{name} : {left} ≡ {unwrapped(run(case))}"), *opened, f"{name} = refl", ""]
+    return [f"-- {case['text']}", *wrapped(f"{name} : {left} ≡ {unwrapped(run(case))}"), *opened, f"{name} = refl", ""]
 
 
 def script_lines(line, case):
     name = f"script_{line}"
     lines = ["-- " + text for text in case["script"].splitlines()]
     lines += [f"abbrev {name} : List Statement"]
-    lines += line_of(f"{name} = {unwrapped(listed([unwrapped(statement(s)) for s in case['tree']]))}")
+    lines += wrapped(f"{name} = {unwrapped(listed([unwrapped(statement(s)) for s in case['tree']]))}")
     lines.append("")
     for number, one in enumerate(case["runs"], 1):
         left = f"(script_run value_text {seen(one['seen'])} {name})"
         for what, right in (("effects", effects(one["effects"])), ("ending", ending(one["end"]))):
             lemma = f"{name}_{what}_{number}"
-            lines += [*line_of(f"{lemma} : {what} {left} ≡ {unwrapped(right)}"), "unfolding digits encode", f"{lemma} = refl", ""]
+            lines += [*wrapped(f"{lemma} : {what} {left} ≡ {unwrapped(right)}"), "unfolding digits encode", f"{lemma} = refl", ""]
     return lines
 
 
