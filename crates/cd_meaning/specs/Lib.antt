@@ -18,3 +18,4 @@ pub mod Text
 pub mod ValueText
 pub mod Words
 pub mod Zips
+pub mod cases
