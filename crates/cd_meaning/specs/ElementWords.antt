@@ -2,7 +2,7 @@
 use Rattle.std.specs.Prelude.{ℕ, suc, ◌+◌, Bool, true, false, if◌then◌else◌, List, [], ◌∷◌, length, replicate}
 use Rattle.cd_meaning.specs.Stream.{Item, Value, absent, present, End, Done, Act, Out}
 use Rattle.cd_meaning.specs.Run.{stamp, Run, Ends, Component, past}
-use Rattle.cd_meaning.specs.Words.{each_to_end, passes, drops, first, unit_of, while, whole, number}
+use Rattle.cd_meaning.specs.Words.{each_to_end, passes, drops, first, unit_of, while, whole, number, as_count}
 
 -- ---- words that give values
 
@@ -53,14 +53,14 @@ abbrev pub latest : (Item → Value) → Component
 latest v = whole (last_of v)
 
 abbrev pub counted : Component
-counted = whole (λ xs. Value.Num (length xs))
+counted = whole (λ xs. Value.Num (as_count (length xs)))
 
 abbrev pub sum_of : List Item → ℕ
 sum_of [] = 0
 sum_of (x ∷ xs) = number x + sum_of xs
 
 abbrev pub summed : Component
-summed = whole (λ xs. Value.Num (sum_of xs))
+summed = whole (λ xs. Value.Num (as_count (sum_of xs)))
 
 -- whether each value passes, or some value does: it ends at the first that decides, where i values stand before
 abbrev pub all_from : (Item → Bool) → ℕ → List Item → End → Run

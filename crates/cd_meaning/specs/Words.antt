@@ -1,5 +1,5 @@
 -- Shapes of words' runs, and what is known of the sites that read.
-use Rattle.std.specs.Prelude.{ℕ, suc, ◌==◌, nat_le, Bool, if◌then◌else◌, List, [], ◌∷◌, length, take, map}
+use Rattle.std.specs.Prelude.{ℕ, suc, ◌==◌, nat_le, Bool, if◌then◌else◌, List, [], ◌∷◌, length, take, map, ◌-◌, ◌^◌, min}
 use Rattle.cd_meaning.specs.Stream.{Item, Elem, Piece, Value, Done, Act, Out}
 use Rattle.cd_meaning.specs.Run.{stamp, Run, Ends, Component, acts_at, past}
 
@@ -60,6 +60,10 @@ piece xs = Piece (map number xs)
 abbrev pub elements_out : List ℕ → List Act
 elements_out [] = []
 elements_out (n ∷ ns) = Out (Elem n) ∷ elements_out ns
+
+-- a number as a count, a sum or an offset, which stays at the greatest that there is
+abbrev pub as_count : ℕ → ℕ
+as_count n = min n (2 ^ 64 - 1)
 
 -- ---- sites
 
