@@ -2,6 +2,7 @@
 pub mod Bases
 pub mod Classes
 pub mod Elements
+pub mod Flows
 pub mod Forms
 pub mod Given
 pub mod Pieces

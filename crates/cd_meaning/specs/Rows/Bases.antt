@@ -89,6 +89,12 @@ base64_decode_low_four = refl
 base64_decode_low_two : on_bytes base64_decode_word (codes "Zm9=") Ended ≡ stops_at 4 4 (BadBase64 0)
 base64_decode_low_two = refl
 
+base64_decode_low_fourth : on_bytes base64_decode_word (codes "Zo==") Ended ≡ stops_at 4 4 (BadBase64 0)
+base64_decode_low_fourth = refl
+
+base64_decode_low_second : on_bytes base64_decode_word (codes "Zm+=") Ended ≡ stops_at 4 4 (BadBase64 0)
+base64_decode_low_second = refl
+
 base64_decode_padding_within : on_bytes base64_decode_word (codes "Z=9v") Ended ≡ stops_at 4 4 (BadBase64 0)
 base64_decode_padding_within = refl
 

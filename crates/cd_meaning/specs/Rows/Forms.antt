@@ -3,7 +3,7 @@ use Rattle.std.specs.Prelude.{◌≡◌, refl, [], ◌∷◌, codes}
 use Rattle.cd_meaning.specs.Stream.{Another, BadHex, Ended, NoValues, Open, Put, Value, absent, present}
 use Rattle.cd_meaning.specs.Words.{AtEnd, MayGoOn}
 use Rattle.cd_meaning.specs.Classes.{digit, empty, reversed, xor}
-use Rattle.cd_meaning.specs.Meaning.{blocks_word, chunks_of_word, drop_e, drop_word, exactly_e_form, exactly_form, filter_e, flat_word, head_e, head_word, hex_decode_word, length_e, length_word, line_e_form, lines_word, map_e, map_word, pass_e, pass_word, peek_e, peek_word, piped, piped_asked, piped_both, piped_keep, piped_return, piped_up, sequence_form, sink_null, source_file_word, stdout_word, take_e, take_while_e, take_while_word, take_word, tee_form, texts_word, zip_conduit_form, zip_sink_form, zip_source_form}
+use Rattle.cd_meaning.specs.Meaning.{blocks_word, chunks_of_word, drop_e, drop_word, exactly_e_form, exactly_form, filter_e, flat_word, head_e, head_word, hex_decode_word, length_e, length_word, line_e_form, lines_word, map_e, map_word, pass_e, pass_word, peek_e, peek_word, piped, piped_asked, piped_both, piped_keep, piped_return, piped_up, sequence_form, sink_file_word, sink_null, source_file_word, stdout_word, take_e, take_while_e, take_while_word, take_word, tee_form, texts_word, zip_conduit_form, zip_sink_form, zip_source_form}
 use Rattle.cd_meaning.specs.Rows.Given.{at_end, does_at, done_at, gives_elem, gives_piece, late_elem, on_blocks, on_bytes, on_chars, on_nothing, on_texts, seen_of, stops_at, told_of, waiting, waits_for, waits_past}
 
 -- `|`: the stamps are the first part's, where the second one asked
@@ -38,6 +38,9 @@ keep_empty = refl
 keep_leftover : on_bytes (piped_keep (map_e (xor 1)) peek_e) (codes "a") waiting ≡ done_at 1 0 (present (Value.Byte 96))
 keep_leftover = refl
 
+keep_own_stamps : on_bytes (piped_keep pass_e (sequence_form peek_e sink_file_word)) (codes "a") waiting ≡ does_at 1 0 (Open 1) (does_at 1 1 (Put 1 97) (waits_past 1))
+keep_own_stamps = refl
+
 keep_waits : on_bytes (piped_keep (map_e (xor 1)) (take_e 2)) (codes "a") waiting ≡ gives_elem 1 96 (waits_past 1)
 keep_waits = refl
 
@@ -53,6 +56,9 @@ return_taken = refl
 
 return_later : on_texts (piped_return pass_word (take_while_word empty)) ([] ∷ codes "b" ∷ codes "c" ∷ []) waiting ≡ gives_piece 1 [] (done_at 2 2 (Value.Pair Value.Unit (Value.ListV (Another (Value.TextV (codes "b")) NoValues))))
 return_later = refl
+
+return_of_nothing : on_bytes (piped_return (drop_e 1) length_word) (codes "a") waiting ≡ done_at 1 1 (Value.Pair (Value.Num 0) (Value.ListV NoValues))
+return_of_nothing = refl
 
 return_waits : on_blocks (piped_return pass_word length_word) (codes "a" ∷ []) waiting ≡ waits_past 1
 return_waits = refl

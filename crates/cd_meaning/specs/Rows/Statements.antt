@@ -2,9 +2,9 @@
 use Rattle.std.specs.Prelude.{◌≡◌, refl, ℕ, List, [], ◌∷◌, codes}
 use lib.Utf8.{encode}
 use Rattle.std.specs.Fmt.{digits}
-use Rattle.cd_meaning.specs.Stream.{Close, Done, Halts, More, Open, Reading, Value}
+use Rattle.cd_meaning.specs.Stream.{Close, Done, Halts, More, Open, Put, Reading, Value}
 use Rattle.cd_meaning.specs.Words.{AtEnd, MayGoOn}
-use Rattle.cd_meaning.specs.Meaning.{Meaning, Statement, base64_decode_word, base64_encode_word, close_statement, collect_e, exactly_e_form, feed_statement, head_e, hold_statement, length_e, length_word, let_statement, line_e_form, lines_word, peek_e, piped, release_statement, run_statement, source_file_word, stdin_word, stdout_word, take_e, unlines_word, utf8_word, zip_sink_form, zip_source_form}
+use Rattle.cd_meaning.specs.Meaning.{Meaning, Statement, base64_decode_word, base64_encode_word, bytes_word, close_statement, collect_e, exactly_e_form, feed_statement, head_e, hold_statement, length_e, length_word, let_statement, line_e_form, lines_word, peek_e, piped, release_statement, run_statement, source_file_word, stdin_word, stdout_word, take_e, unlines_word, utf8_word, zip_sink_form, zip_source_form}
 use Rattle.cd_meaning.specs.Rows.Given.{does, ends_so, puts_at, told_of}
 
 abbrev s : List ℕ
@@ -39,6 +39,9 @@ held_and_zipped = hold_statement (codes "k") ∷ hold_statement (codes "j") ∷ 
 
 abbrev demo_script : List Statement
 demo_script = let_statement s file_source ∷ feed_statement s (line_e_form length_e) ∷ close_statement s (zip_sink_form length_e (piped (lines_word 64) length_word)) ∷ run_statement (piped file_source (piped base64_encode_word (piped base64_decode_word (piped utf8_word length_e)))) ∷ []
+
+abbrev fed_twice : List Statement
+fed_twice = let_statement s file_source ∷ feed_statement s (exactly_e_form 1 stdout_word) ∷ close_statement s stdout_word ∷ run_statement (piped (bytes_word (codes "z")) stdout_word) ∷ []
 
 abbrev two_runs : List Statement
 two_runs = run_statement (piped file_source length_e) ∷ run_statement (piped file_source stdout_word) ∷ []
@@ -117,6 +120,9 @@ unfolding encode digits
 demo_one = refl
 
 -- a statement's sites follow those of the statements before; the first that is not done ends the script
+fed_twice_does : does fed_twice (told_of 1 (codes "ab") AtEnd ∷ []) ≡ Open 1 ∷ Put 2 97 ∷ Put 3 98 ∷ Close 1 ∷ Put 4 122 ∷ []
+fed_twice_does = refl
+
 two_runs_does : does two_runs (told_of 1 (codes "ab") AtEnd ∷ told_of 2 (codes "c") AtEnd ∷ []) ≡ Open 1 ∷ Close 1 ∷ puts_at 0 (codes "= 2\n") (Open 2 ∷ puts_at 3 (codes "c") (Close 2 ∷ []))
 unfolding encode digits
 two_runs_does = refl

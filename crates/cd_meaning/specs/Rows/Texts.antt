@@ -47,6 +47,12 @@ utf8_bad_tail = refl
 utf8_overlong_two : on_bytes utf8_word (192 ∷ 128 ∷ []) Ended ≡ stops_at 1 1 (BadText 0)
 utf8_overlong_two = refl
 
+utf8_overlong_last : on_bytes utf8_word (193 ∷ 191 ∷ []) Ended ≡ stops_at 1 1 (BadText 0)
+utf8_overlong_last = refl
+
+utf8_past_all : on_bytes utf8_word (245 ∷ []) waiting ≡ stops_at 1 1 (BadText 0)
+utf8_past_all = refl
+
 utf8_overlong_three : on_bytes utf8_word (224 ∷ 159 ∷ []) Ended ≡ stops_at 2 2 (BadText 0)
 utf8_overlong_three = refl
 
