@@ -171,6 +171,9 @@ tees_does : does tees [] ≡ puts_at 1 (codes "ab") (puts_at 0 (codes "= 2\n") [
 unfolding encode digits
 tees_does = refl
 
+tees_sites : does (alone (piped (blocks_word (codes "a" ∷ [])) (piped (tee_form (piped flat_word stdout_word)) (piped flat_word stdout_word)))) [] ≡ Put 1 97 ∷ Put 2 97 ∷ []
+tees_sites = refl
+
 counts_and_first_does : does counts_and_first [] ≡ puts_at 1 (codes "1") (puts_at 0 (codes "= (3, ())\n") [])
 unfolding encode digits
 counts_and_first_does = refl
