@@ -102,6 +102,7 @@ module _ (name : List ℕ) (count : ℕ) where
     puts = λ text. form_puts text (seen_of takes.part) count ∙ takes.front;
     whole = on_success _ takes.whole;
     done = λ success text. form_ending text (seen_of takes.part) count ∙ front_done _ _ count (on_success _ takes.enough success);
+    calm = on_success _ takes.calm;
   }
 
   -- what was put

@@ -1,5 +1,5 @@
 -- How a run of reads that are passed on goes on.
-use Rattle.std.proofs.Common.{◌≡◌, ◌≢◌, inl, ℕ, ◌+◌, ◌-◌, ◌≤◌, min, length, length-take, length-append, List, [], ◌∷◌, ◌++◌, take, drop, Result, Ok, Err, refl, sym, ◌∙◌, ap, subst, arith, append_assoc}
+use Rattle.std.proofs.Common.{false, ◌≡◌, ◌≢◌, inl, ℕ, ◌+◌, ◌-◌, ◌≤◌, min, length, length-take, length-append, List, [], ◌∷◌, ◌++◌, take, drop, Result, Ok, Err, refl, sym, ◌∙◌, ap, subst, arith, append_assoc}
 use Rattle.std.specs.Prelude.{All, OnOk}
 use Rattle.std.proofs.lemmas.List.{append-nil}
 use Rattle.std.proofs.lemmas.List.Elements.{All-append, All-cons, All-tail}
@@ -15,10 +15,10 @@ use Rattle.cd_world.specs.Events.{gave, given_by, bytes_given, written_by, writt
 use Rattle.cd_world.specs.Files.{Files, left_at, with_output, ReadsFile}
 use Rattle.cd_meaning.specs.Words.{Mark, AtEnd, MayGoOn, Broken}
 use Rattle.cd_cli.specs.Seen.{mark_of}
-use Rattle.cd_cli.specs.Take.{Passing, IsMove, LogsFront, HasEnough, LogsPass}
+use Rattle.cd_cli.specs.Take.{is_failure, IsCalm, NoneFailed, Passing, IsMove, LogsFront, HasEnough, LogsPass}
 use Rattle.cd_cli.proofs.Fronts.{take-append, take_least, take-given, left_after_read}
-use Rattle.cd_cli.proofs.SeenSteps.{mark_behind}
-use Rattle.cd_cli.proofs.WriteSteps.{nothing_more}
+use Rattle.cd_cli.proofs.SeenSteps.{goes_on_unbroken, mark_behind}
+use Rattle.cd_cli.proofs.WriteSteps.{nothing_more, on_ok}
 
 -- the files
 
@@ -127,14 +127,15 @@ pub record LogsPassing (d count left : ℕ) (mark : Mark) (l l' : List Event) : 
   pub written : written_to 1 part ≡ take count (bytes_given part)
   pub still : left ≡ count - length (bytes_given part)
   pub mark_is : mark_of part ≡ mark
+  pub calm : mark ≢ Broken → NoneFailed part
 
 pub log_pass_none : (d count : ℕ) (l : List Event) → LogsPassing d count count MayGoOn l l
-log_pass_none d count l = record { part = []; log = sym (append-nil l); moves = nothing_more (IsMove d); written = sym (take-nil count); still = omega arith; mark_is = refl }
+log_pass_none d count l = record { part = []; log = sym (append-nil l); moves = nothing_more (IsMove d); written = sym (take-nil count); still = omega arith; mark_is = refl; calm = λ unbroken. nothing_more IsCalm }
 
 -- what was passed so far, as an answer
 pub logs_pass : {T : Type 0} (d count left : ℕ) (mark : Mark) (l l' : List Event) (result : Result T WorldError) (so_far : LogsPassing d count left mark l l') → OnOk result (◌≡◌ {A = List ℕ} [] [])
-    → OnOk result (HasEnough count so_far.part) → LogsPass d count result l l'
-logs_pass d count left mark l l' result so_far whole enough = record {
+    → OnOk result (HasEnough count so_far.part) → OnOk result (mark ≢ Broken) → LogsPass d count result l l'
+logs_pass d count left mark l l' result so_far whole enough unbroken = record {
   part = so_far.part;
   log = so_far.log;
   moves = so_far.moves;
@@ -142,6 +143,7 @@ logs_pass d count left mark l l' result so_far whole enough = record {
   front = sym so_far.written ∙ sym (append-nil (written_to 1 so_far.part));
   whole = whole;
   enough = enough;
+  calm = on_ok result so_far.calm unbroken;
 }
 
 -- none are still to come
@@ -150,8 +152,8 @@ enough_passed d count left mark l l' so_far none = inl (omega (arith, so_far.sti
 
 module _ (from : Descriptor) (count left : ℕ) (into : List ℕ) (l l1 l2 : List Event) (so_far : LogsPassing from.0 count left MayGoOn l l1) where
   -- a call that read nothing
-  idle : (e : Event) → l2 ≡ l1 ++ e ∷ [] → IsMove from.0 e → given_by e ≡ [] → written_by 1 e ≡ [] → LogsPassing from.0 count left (mark_of (e ∷ [])) l l2
-  idle e log move gives writes =
+  idle : (e : Event) → l2 ≡ l1 ++ e ∷ [] → IsMove from.0 e → given_by e ≡ [] → written_by 1 e ≡ [] → (mark_of (e ∷ []) ≢ Broken → is_failure e ≡ false) → LogsPassing from.0 count left (mark_of (e ∷ [])) l l2
+  idle e log move gives writes calm =
       let given : bytes_given (so_far.part ++ e ∷ []) ≡ bytes_given so_far.part = flat_map-append given_by so_far.part (e ∷ []) ∙ ap (λ (b : List ℕ). bytes_given so_far.part ++ (b ++ [])) gives ∙ append-nil (bytes_given so_far.part) in
       let wrote : written_to 1 (so_far.part ++ e ∷ []) ≡ written_to 1 so_far.part = flat_map-append (written_by 1) so_far.part (e ∷ []) ∙ ap (λ (b : List ℕ). written_to 1 so_far.part ++ (b ++ [])) writes ∙ append-nil (written_to 1 so_far.part) in
       record {
@@ -161,14 +163,15 @@ module _ (from : Descriptor) (count left : ℕ) (into : List ℕ) (l l1 l2 : Lis
         written = wrote ∙ so_far.written ∙ ap (take count) (sym given);
         still = so_far.still ∙ ap (λ (b : List ℕ). count - length b) (sym given);
         mark_is = mark_behind so_far.part (e ∷ []) so_far.mark_is;
+        calm = λ unbroken. All-append IsCalm so_far.part (e ∷ []) (so_far.calm goes_on_unbroken) (All-cons IsCalm e [] (calm unbroken) (nothing_more IsCalm));
       }
 
   pub log_pass_refused : (e : WorldError) → l2 ≡ l1 ++ gave from into (Err e) → (mark : Mark) × LogsPassing from.0 count left mark l l2
-  log_pass_refused Failed log = (Broken, idle (ReadFailed from) log refl refl refl)
+  log_pass_refused Failed log = (Broken, idle (ReadFailed from) log refl refl refl (λ unbroken. absurd (unbroken refl)))
   log_pass_refused NoMemory log = (MayGoOn, subst (λ (k : List Event). LogsPassing from.0 count left MayGoOn l k) (sym (log ∙ append-nil l1)) so_far)
 
   pub log_pass_end : (k : ℕ) → k ≡ 0 → l2 ≡ l1 ++ gave from into (Ok k) → LogsPassing from.0 count left AtEnd l l2
-  log_pass_end k zero log = idle (GaveEnd from) (subst (λ (m : ℕ). l2 ≡ l1 ++ gave from into (Ok m)) zero log) refl refl refl
+  log_pass_end k zero log = idle (GaveEnd from) (subst (λ (m : ℕ). l2 ≡ l1 ++ gave from into (Ok m)) zero log) refl refl refl (λ unbroken. refl)
 
   -- a read that gave bytes, and writes of the front of them
   module _ {T : Type 0} (k n : ℕ) (slice : List ℕ) (answer : Result T WorldError) (l3 : List Event) (some : k ≢ 0) (fits : k ≤ length into) (n_is : n ≡ min left k) (slice_is : slice ≡ take n into)
@@ -212,10 +215,14 @@ module _ (from : Descriptor) (count left : ℕ) (into : List ℕ) (l l1 l2 : Lis
         ∙ ap (λ (b : List ℕ). b ++ out.behind) (sym written_is)
 
     pub log_pass_stopped : {U : Type 0} (result : Result U WorldError) → ((P : Type 0) → OnOk result P) → LogsPass from.0 count result l l3
-    log_pass_stopped result none = record { part = so_far.part ++ now; log = log_is; moves = moves_are; behind = out.behind; front = front_is; whole = none _; enough = none _ }
+    log_pass_stopped result none = record { part = so_far.part ++ now; log = log_is; moves = moves_are; behind = out.behind; front = front_is; whole = none _; enough = none _; calm = none _ }
 
-    pub log_pass_turn : out.behind ≡ [] → LogsPassing from.0 count (left - n) MayGoOn l l3
-    log_pass_turn none = record {
+    calm_now : NoneFailed out.part → NoneFailed (so_far.part ++ now)
+    unfolding now
+    calm_now calm = All-append IsCalm so_far.part now (so_far.calm goes_on_unbroken) (All-cons IsCalm _ out.part refl calm)
+
+    pub log_pass_turn : out.behind ≡ [] → NoneFailed out.part → LogsPassing from.0 count (left - n) MayGoOn l l3
+    log_pass_turn none calm = record {
       part = so_far.part ++ now;
       log = log_is;
       moves = moves_are;
@@ -223,4 +230,5 @@ module _ (from : Descriptor) (count left : ℕ) (into : List ℕ) (l l1 l2 : Lis
       still = let total : length (bytes_given (so_far.part ++ now)) ≡ length (bytes_given so_far.part) + k = ap length given_is ∙ length-append (bytes_given so_far.part) (take k into) ∙ ap (λ (m : ℕ). length (bytes_given so_far.part) + m) size in
           omega (arith, so_far.still, total, n_is);
       mark_is = mark_now;
+      calm = λ unbroken. calm_now calm;
     }

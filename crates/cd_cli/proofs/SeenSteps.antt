@@ -1,8 +1,8 @@
 -- What was seen by calls that go on.
-use Rattle.std.proofs.Common.{◌≡◌, List, [], ◌∷◌, ◌++◌, refl, sym, subst}
+use Rattle.std.proofs.Common.{◌≡◌, ◌≢◌, List, [], ◌∷◌, ◌++◌, refl, sym, subst}
 use Rattle.cd_world.specs.declared.event.Event.{Event}
 use Rattle.cd_world.specs.declared.event.Event.TheVariants.{OpenedRead, Created, Marked, OpenFailed, Gave, GaveEnd, ReadFailed, Wrote, WriteFailed, Closed, CloseFailed as CloseFailing}
-use Rattle.cd_meaning.specs.Words.{Mark, AtEnd, MayGoOn}
+use Rattle.cd_meaning.specs.Words.{Mark, AtEnd, MayGoOn, Broken}
 use Rattle.cd_cli.specs.Seen.{mark_of}
 
 -- which mark it is
@@ -13,6 +13,13 @@ MayBe _ = ⊥
 abbrev IsEnd : Mark → Type 0
 IsEnd AtEnd = Unit
 IsEnd _ = ⊥
+
+-- these are not broken
+pub goes_on_unbroken : MayGoOn ≢ Broken
+goes_on_unbroken is = absurd (subst MayBe is tt)
+
+pub end_unbroken : AtEnd ≢ Broken
+end_unbroken is = absurd (subst IsEnd is tt)
 
 -- what comes later tells, where nothing told yet
 pub mark_behind : (front back : List Event) → mark_of front ≡ MayGoOn → mark_of (front ++ back) ≡ mark_of back

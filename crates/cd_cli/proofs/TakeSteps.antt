@@ -16,17 +16,20 @@ use Rattle.cd_world.specs.Events.{opened, closed, given_by, bytes_given, written
 use Rattle.cd_world.specs.Files.{Files, left_at, with_given, after_open, ClosesFile}
 use Rattle.cd_world.specs.Live.{open_as}
 use Rattle.cd_cli.specs.Cause.{answer_of}
-use Rattle.cd_cli.specs.Take.{Passes, HasEnough, LogsPass, none_called, open_refused, open_closed, Takes, LogsTake}
+use Rattle.cd_cli.specs.Take.{IsCalm, NoneFailed, Passes, HasEnough, LogsPass, none_called, open_refused, open_closed, Takes, LogsTake}
+use Rattle.std.proofs.lemmas.List.Elements.{All-append, All-cons}
 use Rattle.cd_cli.proofs.SeenSteps.{end_stays}
+use Rattle.cd_cli.proofs.WriteSteps.{nothing_more, on_ok}
 
 kept : {T U : Type 0} (answer : Result T WorldError) (closing : Result U CloseFailed) (P : Type 0) → OnOk answer P → OnOk (answer_of answer closing) P
 kept (Ok done) (Ok shut) P p = p
 kept (Ok done) (Err failed) P p = tt
 kept (Err error) closing P p = tt
 
-on_ok : {T E P Q : Type 0} (result : Result T E) → (P → Q) → OnOk result P → OnOk result Q
-on_ok (Ok done) f p = f p
-on_ok (Err error) f p = tt
+-- a close that fails is no success
+failed_close : (U : Type 0) {T : Type 0} (answer : Result T WorldError) (failed : CloseFailed) (P : Type 0) → OnOk (answer_of {U = U} answer (Err failed)) P
+failed_close U (Ok done) failed P = tt
+failed_close U (Err error) failed P = tt
 
 -- the files
 
@@ -69,12 +72,12 @@ module _ (name : List ℕ) (count : ℕ) (f : Files) where
 module _ (name : List ℕ) (count : ℕ) (l : List Event) where
   -- nothing was called
   pub logs_nothing : {T E : Type 0} (result : Result T E) → OnOk result (◌≡◌ {A = List ℕ} [] []) → OnOk result (HasEnough count []) → LogsTake name count result l l
-  logs_nothing result whole enough = record { part = []; log = sym (append-nil l); shape = none_called; behind = []; front = take-nil count; whole = whole; enough = enough }
+  logs_nothing result whole enough = record { part = []; log = sym (append-nil l); shape = none_called; behind = []; front = take-nil count; whole = whole; enough = enough; calm = on_ok result (λ none. nothing_more IsCalm) whole }
 
   -- the open was refused
   pub logs_refused : {T E : Type 0} (result : Result T E) (l' : List Event) (e : WorldError) → ((P : Type 0) → OnOk result P) → l' ≡ l ++ opened Reading name (Err e) → LogsTake name count result l l'
-  logs_refused result l' Failed none log = record { part = OpenFailed name ∷ []; log = log; shape = open_refused; behind = []; front = take-nil count; whole = none _; enough = none _ }
-  logs_refused result l' NoMemory none log = record { part = []; log = log; shape = none_called; behind = []; front = take-nil count; whole = none _; enough = none _ }
+  logs_refused result l' Failed none log = record { part = OpenFailed name ∷ []; log = log; shape = open_refused; behind = []; front = take-nil count; whole = none _; enough = none _; calm = none _ }
+  logs_refused result l' NoMemory none log = record { part = []; log = log; shape = none_called; behind = []; front = take-nil count; whole = none _; enough = none _; calm = none _ }
 
   -- the file was opened, passed on and closed
   module _ {T : Type 0} (d : Descriptor) (l1 l2 l3 : List Event) (answer : Result T WorldError) (passes : LogsPass d.0 count answer l1 l2) (opens : l1 ≡ l ++ opened Reading name (Ok d)) where
@@ -82,9 +85,9 @@ module _ (name : List ℕ) (count : ℕ) (l : List Event) where
     enough_of end given (inl many) = inl (subst (λ (b : List ℕ). count ≤ length b) (sym given) many)
     enough_of end given (inr told) = inr (end_stays passes.part (end ∷ []) told)
 
-    logs_end : (result : Result T WorldError) (end : Event) → IsCloseOf d end → given_by end ≡ [] → written_by 1 end ≡ [] → OnOk result (passes.behind ≡ []) → OnOk result (HasEnough count passes.part)
+    logs_end : (result : Result T WorldError) (end : Event) → IsCloseOf d end → given_by end ≡ [] → written_by 1 end ≡ [] → OnOk result (passes.behind ≡ []) → OnOk result (HasEnough count passes.part) → OnOk result (NoneFailed (OpenedRead name d ∷ passes.part ++ end ∷ []))
         → l3 ≡ l2 ++ end ∷ [] → LogsTake name count result l l3
-    logs_end result end is_close gives writes whole enough log =
+    logs_end result end is_close gives writes whole enough calm log =
         let given : bytes_given (passes.part ++ end ∷ []) ≡ bytes_given passes.part = flat_map-append given_by passes.part (end ∷ []) ∙ ap (λ (b : List ℕ). bytes_given passes.part ++ (b ++ [])) gives ∙ append-nil (bytes_given passes.part) in
         let wrote : written_to 1 (passes.part ++ end ∷ []) ≡ written_to 1 passes.part = flat_map-append (written_by 1) passes.part (end ∷ []) ∙ ap (λ (b : List ℕ). written_to 1 passes.part ++ (b ++ [])) writes ∙ append-nil (written_to 1 passes.part) in
         record {
@@ -96,11 +99,17 @@ module _ (name : List ℕ) (count : ℕ) (l : List Event) where
           front = ap (take count) given ∙ passes.front ∙ ap (λ (b : List ℕ). b ++ passes.behind) (sym wrote);
           whole = whole;
           enough = on_ok result (enough_of end given) enough;
+          calm = calm;
         }
 
     kept_by : {U : Type 0} (closing : Result U CloseFailed) (result : Result T WorldError) → result ≡ answer_of answer closing → (P : Type 0) → OnOk answer P → OnOk result P
     kept_by closing result is P p = subst (λ (r : Result T WorldError). OnOk r P) (sym is) (kept answer closing P p)
 
+    closed_calm : NoneFailed passes.part → NoneFailed (OpenedRead name d ∷ passes.part ++ Closed d ∷ [])
+    closed_calm calm = All-append IsCalm (OpenedRead name d ∷ passes.part) (Closed d ∷ []) (All-cons IsCalm _ passes.part refl calm) (All-cons IsCalm _ [] refl (nothing_more IsCalm))
+
     pub logs_closed : {U : Type 0} (closing : Result U CloseFailed) (result : Result T WorldError) → result ≡ answer_of answer closing → l3 ≡ l2 ++ closed d closing → LogsTake name count result l l3
-    logs_closed (Ok shut) result is log = logs_end result (Closed d) refl refl refl (kept_by (Ok shut) result is _ passes.whole) (kept_by (Ok shut) result is _ passes.enough) log
-    logs_closed (Err failed) result is log = logs_end result (CloseFailing d) refl refl refl (kept_by (Err failed) result is _ passes.whole) (kept_by (Err failed) result is _ passes.enough) log
+    logs_closed (Ok shut) result is log = logs_end result (Closed d) refl refl refl (kept_by (Ok shut) result is _ passes.whole) (kept_by (Ok shut) result is _ passes.enough)
+        (on_ok result closed_calm (kept_by (Ok shut) result is _ passes.calm)) log
+    logs_closed (Err failed) result is log = logs_end result (CloseFailing d) refl refl refl (kept_by (Err failed) result is _ passes.whole) (kept_by (Err failed) result is _ passes.enough)
+        (subst (λ (r : Result T WorldError). OnOk r (NoneFailed (OpenedRead name d ∷ passes.part ++ CloseFailing d ∷ []))) (sym is) (failed_close _ answer failed _)) log

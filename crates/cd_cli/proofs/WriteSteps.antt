@@ -1,5 +1,5 @@
 -- How a run of writes to standard output goes on.
-use Rattle.std.proofs.Common.{◌≡◌, ℕ, ◌+◌, ◌-◌, ◌≤◌, length-drop, List, [], ◌∷◌, ◌++◌, length, take, drop, Result, Ok, Err, refl, sym, ◌∙◌, ap, subst, arith, append_assoc}
+use Rattle.std.proofs.Common.{◌≡◌, ℕ, ◌+◌, ◌-◌, ◌≤◌, length-drop, List, [], ◌∷◌, ◌++◌, length, take, drop, Result, Ok, Err, refl, sym, ◌∙◌, ap, subst, arith, append_assoc, Bool, true, false, true≢false, IsTrue}
 use Rattle.std.proofs.lemmas.List.{append-nil, take_all, drop_all, take-append-drop}
 use Rattle.std.proofs.Math.Seq.{take-add}
 use Rattle.std.proofs.lemmas.List.Elements.{All-append, All-cons}
@@ -11,7 +11,7 @@ use Rattle.cd_world.specs.declared.world.WorldError.{WorldError}
 use Rattle.cd_world.specs.declared.world.WorldError.TheVariants.{Failed, NoMemory}
 use Rattle.cd_world.specs.Events.{wrote, written_to, IsWriteOn}
 use Rattle.cd_world.specs.Files.{Files, with_output, WritesOutput}
-use Rattle.cd_cli.specs.Take.{WritesFront, LogsFront}
+use Rattle.cd_cli.specs.Take.{IsCalm, NoneFailed, WritesFront, LogsFront}
 
 pub nothing_more : (P : Event → Type 0) → All P []
 nothing_more P k e lt = absurd (omega (arith, lt))
@@ -21,6 +21,10 @@ pub front_more : (bytes : List ℕ) (done count : ℕ) → take done bytes ++ ta
 front_more bytes done count =
     ap (λ (l : List ℕ). take done bytes ++ take count l) (take_all (length bytes - done) (drop done bytes) (omega (arith, length-drop done bytes)))
     ∙ sym (take-add done count bytes)
+
+pub on_ok : {T E P Q : Type 0} (result : Result T E) → (P → Q) → OnOk result P → OnOk result Q
+on_ok (Ok done) f p = f p
+on_ok (Err error) f p = tt
 
 -- the files
 
@@ -39,39 +43,45 @@ module _ {T : Type 0} (bytes : List ℕ) (done : ℕ) (f f' : Files) (so_far : f
 
 -- the calls
 
--- these bytes were written to standard output, and nothing else was called
-pub record LogsOutput (bytes : List ℕ) (l l' : List Event) : Type 0 where
+-- These bytes were written to standard output, and nothing else was called. No call failed where it is quiet.
+pub record LogsOutput (quiet : Bool) (bytes : List ℕ) (l l' : List Event) : Type 0 where
   pub part : List Event
   pub log : l' ≡ l ++ part
   pub writes : All (IsWriteOn 1) part
   pub written : written_to 1 part ≡ bytes
+  pub calm : IsTrue quiet → NoneFailed part
 
-pub log_none : (l : List Event) → LogsOutput [] l l
-log_none l = record { part = []; log = sym (append-nil l); writes = nothing_more (IsWriteOn 1); written = refl }
+pub log_none : (l : List Event) → LogsOutput true [] l l
+log_none l = record { part = []; log = sym (append-nil l); writes = nothing_more (IsWriteOn 1); written = refl; calm = λ quiet. nothing_more IsCalm }
 
-pub log_more : (a b : List ℕ) (l l' l'' more : List Event) → LogsOutput a l l' → l'' ≡ l' ++ more → All (IsWriteOn 1) more → written_to 1 more ≡ b → LogsOutput (a ++ b) l l''
-log_more a b l l' l'' more so_far log writes written = record {
+pub log_more : (quiet : Bool) (a b : List ℕ) (l l' l'' more : List Event) → LogsOutput true a l l' → l'' ≡ l' ++ more → All (IsWriteOn 1) more → written_to 1 more ≡ b → (IsTrue quiet → NoneFailed more)
+    → LogsOutput quiet (a ++ b) l l''
+log_more quiet a b l l' l'' more so_far log writes written calm = record {
   part = so_far.part ++ more;
   log = log ∙ ap (λ (l : List Event). l ++ more) so_far.log ∙ append_assoc l so_far.part more;
   writes = All-append (IsWriteOn 1) so_far.part more so_far.writes writes;
   written = flat_map-append _ so_far.part more ∙ (λ i. so_far.written i ++ written i);
+  calm = λ is. All-append IsCalm so_far.part more (so_far.calm refl) (calm is);
 }
 
-module _ (a slice : List ℕ) (l l' l'' : List Event) (so_far : LogsOutput a l l') where
+loud : {P : Type 0} → IsTrue false → P
+loud is = absurd (true≢false (sym is))
+
+module _ (a slice : List ℕ) (l l' l'' : List Event) (so_far : LogsOutput true a l l') where
   -- a write that took so many bytes
-  pub log_wrote : (k : ℕ) → l'' ≡ l' ++ wrote (record { 0 = 1 }) slice (Ok k) → LogsOutput (a ++ take k slice) l l''
-  log_wrote k log = log_more a (take k slice) l l' l'' (Wrote (record { 0 = 1 }) (take k slice) ∷ []) so_far log
-      (All-cons (IsWriteOn 1) _ [] refl (nothing_more (IsWriteOn 1))) (append-nil (take k slice))
+  pub log_wrote : (k : ℕ) → l'' ≡ l' ++ wrote (record { 0 = 1 }) slice (Ok k) → LogsOutput true (a ++ take k slice) l l''
+  log_wrote k log = log_more true a (take k slice) l l' l'' (Wrote (record { 0 = 1 }) (take k slice) ∷ []) so_far log
+      (All-cons (IsWriteOn 1) _ [] refl (nothing_more (IsWriteOn 1))) (append-nil (take k slice)) (λ quiet. All-cons IsCalm _ [] refl (nothing_more IsCalm))
 
   -- one that was refused
-  pub log_refused : (e : WorldError) → l'' ≡ l' ++ wrote (record { 0 = 1 }) slice (Err e) → LogsOutput a l l''
-  log_refused Failed log = subst (λ o. LogsOutput o l l'') (append-nil a) (log_more a [] l l' l'' (WriteFailed (record { 0 = 1 }) ∷ []) so_far log
-      (All-cons (IsWriteOn 1) _ [] refl (nothing_more (IsWriteOn 1))) refl)
-  log_refused NoMemory log = subst (λ o. LogsOutput o l l'') (append-nil a) (log_more a [] l l' l'' [] so_far log (nothing_more (IsWriteOn 1)) refl)
+  pub log_refused : (e : WorldError) → l'' ≡ l' ++ wrote (record { 0 = 1 }) slice (Err e) → LogsOutput false a l l''
+  log_refused Failed log = subst (λ o. LogsOutput false o l l'') (append-nil a) (log_more false a [] l l' l'' (WriteFailed (record { 0 = 1 }) ∷ []) so_far log
+      (All-cons (IsWriteOn 1) _ [] refl (nothing_more (IsWriteOn 1))) refl loud)
+  log_refused NoMemory log = subst (λ o. LogsOutput false o l l'') (append-nil a) (log_more false a [] l l' l'' [] so_far log (nothing_more (IsWriteOn 1)) refl loud)
 
-module _ (bytes : List ℕ) (done : ℕ) (l l' : List Event) (so_far : LogsOutput (take done bytes) l l') where
+module _ (quiet : Bool) (bytes : List ℕ) (done : ℕ) (l l' : List Event) (so_far : LogsOutput quiet (take done bytes) l l') where
   front_is : bytes ≡ written_to 1 so_far.part ++ drop done bytes
   front_is = sym (ap (λ (w : List ℕ). w ++ drop done bytes) so_far.written ∙ take-append-drop done bytes)
 
-  pub logs_front : {T : Type 0} (result : Result T WorldError) → OnOk result (drop done bytes ≡ []) → LogsFront bytes result l l'
-  logs_front result whole = record { part = so_far.part; log = so_far.log; writes = so_far.writes; behind = drop done bytes; front = front_is; whole = whole }
+  pub logs_front : {T : Type 0} (result : Result T WorldError) → OnOk result (drop done bytes ≡ []) → OnOk result (IsTrue quiet) → LogsFront bytes result l l'
+  logs_front result whole is = record { part = so_far.part; log = so_far.log; writes = so_far.writes; behind = drop done bytes; front = front_is; whole = whole; calm = on_ok result so_far.calm is }

@@ -14,7 +14,7 @@ use Rattle.cd_cli.specs.Cause.{cause_of}
 use Rattle.cd_cli.specs.Form.{IsForm}
 use Rattle.cd_cli.specs.Script.{ReadsWhole, TriesRead}
 use Rattle.cd_cli.specs.Seen.{seen_of}
-use Rattle.cd_cli.specs.Take.{OpensAndCloses}
+use Rattle.cd_cli.specs.Take.{NoneFailed, OpensAndCloses}
 
 -- the words `run SCRIPT`
 pub record NamesScript (words : List (List ℕ)) (script : List ℕ) : Type 0 where
@@ -32,13 +32,14 @@ IsRefusal cause = (cause ≡ OutsideFault) ⊎ (cause ≡ NoMemory)
 -- ---- by what was called
 
 -- A script of the form was run by these calls. A front of what it means over what was seen was put, for each way in
--- which values are printed; and all of it, and it is done, where the cause is Success.
+-- which values are printed; and all of it, it is done and no call failed, where the cause is Success.
 pub record Runs (name : List ℕ) (count : ℕ) (cause : Cause) (calls : List Event) : Type 0 where
   pub shape : OpensAndCloses name calls
   pub behind : List ℕ
   pub puts : (text : Value → List ℕ) → puts_of 2 (effects (form_run text (seen_of calls) count)) ≡ written_to 1 calls ++ behind
   pub whole : cause ≡ Success → behind ≡ []
   pub done : cause ≡ Success → (text : Value → List ℕ) → ending (form_run text (seen_of calls) count) ≡ Done Value.Unit
+  pub calm : cause ≡ Success → NoneFailed calls
 
 -- A text was judged, and then run by these calls where it is of the form.
 pub data Judges (text : List ℕ) (cause : Cause) : List Event → Type 0 where

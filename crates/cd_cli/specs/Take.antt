@@ -1,12 +1,27 @@
 -- What a run of a file's first bytes to standard output does to the files, and what it calls.
-use Rattle.std.specs.Prelude.{◌≡◌, ◌≤◌, ◌⊎◌, ℕ, List, [], ◌∷◌, ◌++◌, All, length, take, Result, OnOk}
+use Rattle.std.specs.Prelude.{◌≡◌, ◌≤◌, ◌⊎◌, ℕ, Bool, true, false, List, [], ◌∷◌, ◌++◌, All, length, take, Result, OnOk}
 use Rattle.cd_world.specs.declared.event.Descriptor.{Descriptor}
 use Rattle.cd_world.specs.declared.event.Event.{Event}
-use Rattle.cd_world.specs.declared.event.Event.TheVariants.{OpenedRead, OpenFailed, Gave, GaveEnd, ReadFailed, Wrote, WriteFailed}
+use Rattle.cd_world.specs.declared.event.Event.TheVariants.{OpenedRead, OpenFailed, Gave, GaveEnd, ReadFailed, Wrote, WriteFailed, CloseFailed as CloseFailing}
 use Rattle.cd_world.specs.Events.{written_to, bytes_given, IsWriteOn, IsCloseOf}
 use Rattle.cd_world.specs.Files.{Files, with_output, left_at}
 use Rattle.cd_meaning.specs.Words.{AtEnd}
 use Rattle.cd_cli.specs.Seen.{mark_of}
+
+-- a call that failed
+abbrev pub is_failure : Event → Bool
+is_failure (OpenFailed name) = true
+is_failure (ReadFailed from) = true
+is_failure (WriteFailed to) = true
+is_failure (CloseFailing which) = true
+is_failure _ = false
+
+abbrev pub IsCalm : Event → Type 0
+IsCalm e = is_failure e ≡ false
+
+-- no call failed
+abbrev pub NoneFailed : List Event → Type 0
+NoneFailed events = All IsCalm events
 
 -- A front of these bytes was written to standard output, and all of them where that went well.
 pub record WritesFront {T E : Type 0} (bytes : List ℕ) (result : Result T E) (f f' : Files) : Type 0 where
@@ -16,7 +31,7 @@ pub record WritesFront {T E : Type 0} (bytes : List ℕ) (result : Result T E) (
   pub whole : OnOk result (behind ≡ [])
   pub files : f' ≡ with_output sent f
 
--- The same by the calls, which were writes to standard output alone.
+-- The same by the calls, which were writes to standard output alone, and none of which failed where that went well.
 pub record LogsFront {T E : Type 0} (bytes : List ℕ) (result : Result T E) (l l' : List Event) : Type 0 where
   pub part : List Event
   pub log : l' ≡ l ++ part
@@ -24,6 +39,7 @@ pub record LogsFront {T E : Type 0} (bytes : List ℕ) (result : Result T E) (l 
   pub behind : List ℕ
   pub front : bytes ≡ written_to 1 part ++ behind
   pub whole : OnOk result (behind ≡ [])
+  pub calm : OnOk result (NoneFailed part)
 
 -- Of the first `count` bytes that were left of a file these were written to standard output, and those behind them were not.
 pub record Passing (d : ℕ) (name : List ℕ) (count : ℕ) (behind : List ℕ) (f f' : Files) : Type 0 where
@@ -51,7 +67,7 @@ IsMove d _ = ⊥
 abbrev pub HasEnough : ℕ → List Event → Type 0
 HasEnough count events = (count ≤ length (bytes_given events)) ⊎ (mark_of events ≡ AtEnd)
 
--- Of the first `count` bytes that were read a front was written. Where that went well all of them were, and no more are to be had.
+-- Of the first `count` bytes that were read a front was written. Where that went well all of them were, no more are to be had, and no call failed.
 pub record LogsPass {T E : Type 0} (d : ℕ) (count : ℕ) (result : Result T E) (l l' : List Event) : Type 0 where
   pub part : List Event
   pub log : l' ≡ l ++ part
@@ -60,6 +76,7 @@ pub record LogsPass {T E : Type 0} (d : ℕ) (count : ℕ) (result : Result T E)
   pub front : take count (bytes_given part) ≡ written_to 1 part ++ behind
   pub whole : OnOk result (behind ≡ [])
   pub enough : OnOk result (HasEnough count part)
+  pub calm : OnOk result (NoneFailed part)
 
 -- A front of the file's first `count` bytes was written to standard output, and all of them where that went well.
 pub record Takes {T E : Type 0} (name : List ℕ) (count : ℕ) (result : Result T E) (f f' : Files) : Type 0 where
@@ -76,7 +93,7 @@ pub data OpensAndCloses (name : List ℕ) : List Event → Type 0 where
   open_refused : OpensAndCloses name (OpenFailed name ∷ [])
   open_closed : (d : Descriptor) (moves : List Event) (end : Event) → All (IsMove d.0) moves → IsCloseOf d end → OpensAndCloses name (OpenedRead name d ∷ moves ++ end ∷ [])
 
--- Of the first `count` bytes that were read a front was written. Where that went well all of them were, and no more are to be had.
+-- Of the first `count` bytes that were read a front was written. Where that went well all of them were, no more are to be had, and no call failed.
 pub record LogsTake {T E : Type 0} (name : List ℕ) (count : ℕ) (result : Result T E) (l l' : List Event) : Type 0 where
   pub part : List Event
   pub log : l' ≡ l ++ part
@@ -85,3 +102,4 @@ pub record LogsTake {T E : Type 0} (name : List ℕ) (count : ℕ) (result : Res
   pub front : take count (bytes_given part) ≡ written_to 1 part ++ behind
   pub whole : OnOk result (behind ≡ [])
   pub enough : OnOk result (HasEnough count part)
+  pub calm : OnOk result (NoneFailed part)

@@ -1,4 +1,4 @@
-use Rattle.std.proofs.Common.{[], List, ℕ, length, length-take, length-drop, take, drop, arith, refl, ◌∙◌, subst, ap, ◌-◌}
+use Rattle.std.proofs.Common.{true, false, [], List, ℕ, length, length-take, length-drop, take, drop, arith, refl, ◌∙◌, subst, ap, ◌-◌}
 use Rattle.std.proofs.lemmas.List.{drop_all}
 use Rattle.std.proofs.lemmas.Result.{IfOk-from_err}
 use Rattle.cd_world.specs.Files.{with_output}
@@ -21,7 +21,7 @@ loop-done-preserved g c =
       later = omega arith;
       live = c.write.ensures.live ∙ c.loop-done.invariant.live;
       files = λ tells. files_more _ _ _ _ _ (c.loop-done.invariant.files tells) (c.in_ok-count.ensures.output tells refl) ∙ ap (λ (b : List ℕ). with_output b (g.W.World.files c.args.world.now)) more;
-      log = λ tells. subst (λ (b : List ℕ). LogsOutput b (g.W.World.log c.args.world.now) (g.W.World.log c.write.new.self)) more
+      log = λ tells. subst (λ (b : List ℕ). LogsOutput true b (g.W.World.log c.args.world.now) (g.W.World.log c.write.new.self)) more
           (log_wrote _ _ _ _ _ (c.loop-done.invariant.log tells) c.in_ok-count.count (c.in_ok-count.ensures.log tells));
     }
 
@@ -31,10 +31,10 @@ returns-in_err-count-clause-files g c = λ tells.
 
 pub returns-in_err-count-clause-log : goal.returns-in_err-count-clause-log
 returns-in_err-count-clause-log g c = λ tells.
-    logs_front c.args.bytes.now c.loop-done.done _ _ (log_refused _ (take (length c.args.bytes.now - c.loop-done.done) (drop c.loop-done.done c.args.bytes.now)) _ _ _ (c.loop-done.invariant.log tells) c.in_err-count.field-0.0 (c.in_err-count.ensures.log tells)) _ (IfOk-from_err _ _ c.from_residual.ensures.0)
+    logs_front false c.args.bytes.now c.loop-done.done _ _ (log_refused _ (take (length c.args.bytes.now - c.loop-done.done) (drop c.loop-done.done c.args.bytes.now)) _ _ _ (c.loop-done.invariant.log tells) c.in_err-count.field-0.0 (c.in_err-count.ensures.log tells)) _ (IfOk-from_err _ _ c.from_residual.ensures.0) (IfOk-from_err _ _ c.from_residual.ensures.0)
 
 pub returns-clause-files : goal.returns-clause-files
 returns-clause-files g c = λ tells. writes_whole c.args.bytes.now c.loop-done.done _ _ (c.loop-done.invariant.files tells) tt (omega arith)
 
 pub returns-clause-log : goal.returns-clause-log
-returns-clause-log g c = λ tells. logs_front c.args.bytes.now c.loop-done.done _ _ (c.loop-done.invariant.log tells) _ (drop_all c.loop-done.done c.args.bytes.now (omega arith))
+returns-clause-log g c = λ tells. logs_front true c.args.bytes.now c.loop-done.done _ _ (c.loop-done.invariant.log tells) _ (drop_all c.loop-done.done c.args.bytes.now (omega arith)) refl

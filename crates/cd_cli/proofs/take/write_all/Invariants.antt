@@ -1,4 +1,4 @@
-use Rattle.std.proofs.Common.{length, ◌-◌, ◌≡◌, ◌≤◌, IsTrue, take}
+use Rattle.std.proofs.Common.{length, ◌-◌, ◌≡◌, ◌≤◌, IsTrue, take, true}
 use Rattle.cd_world.specs.Files.{with_output}
 use Rattle.cd_cli.proofs.WriteSteps.{LogsOutput}
 use Rattle.cd_cli.proofs.take.write_all.Given as goal
@@ -9,7 +9,7 @@ invariant-loop-done g l = record {
   later : g.W.World.faults l.initial.world ≤ g.W.World.faults l.world;
   live : g.W.World.live l.world ≡ g.W.World.live l.initial.world;
   files : IsTrue g.W.World.tells_files → g.W.World.files l.world ≡ with_output (take l.done l.bytes) (g.W.World.files l.initial.world);
-  log : IsTrue g.W.World.tells_log → LogsOutput (take l.done l.bytes) (g.W.World.log l.initial.world) (g.W.World.log l.world);
+  log : IsTrue g.W.World.tells_log → LogsOutput true (take l.done l.bytes) (g.W.World.log l.initial.world) (g.W.World.log l.world);
 }
 
 abbrev pub decreases-loop-done : goal.decreases-loop-done
