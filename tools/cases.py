@@ -290,8 +290,8 @@ IMPORTS = [
     ("Rattle.std.specs.Prelude", "List [] ◌∷◌ ◌≡◌ refl codes map true false"),
     ("Rattle.std.specs.Fmt", "digits"),
     ("lib.Utf8", "encode"),
-    (f"{SPECS}.Stream", "Sort Elem Piece Value absent present NoValues Another Input Reading More Stop BadText BadHex "
-     "BadBase64 ReadBad Long Ended Halted Done Halts Out Do Open Put Close"),
+    (f"{SPECS}.Stream", "Sort Elem Piece Value absent present NoValues Another Input Reading More Stop bad_text bad_hex "
+     "bad_base64 ReadBad Long Ended Halted Done Halts Out Do Open Put Close"),
     (f"{SPECS}.Run", "stamp Then Ends effects ending"),
     (f"{SPECS}.Words", "AtEnd MayGoOn Broken TooLong"),
     (f"{SPECS}.Classes", " ".join([*CLASSES.values(), *TESTS.values(), *MAPS.values(), "not_class", "not_test"])),

@@ -1,16 +1,16 @@
 -- Base16 and base64, by RFC 4648, sections 8 and 4.
 use Rattle.std.specs.Prelude.{ℕ, suc, ◌+◌, ◌-◌, ◌*◌, ◌/◌, ◌%◌, ◌==◌, nat_lt, Bool, false, if◌then◌else◌, List, [], ◌∷◌, Option, Some, None}
-use Rattle.cd_meaning.specs.Stream.{Item, Value, Fault, BadHex, BadBase64, Stop, End, Ended, Halted, Halts}
+use Rattle.cd_meaning.specs.Stream.{Item, Value, Stopped, bad_hex, bad_base64, Stop, End, Ended, Halted, Halts}
 use Rattle.cd_meaning.specs.Run.{stamp, Run, Ends, Component, acts_at, past}
 use Rattle.cd_meaning.specs.Words.{each_to_end, number, elements_out, as_count}
 
 -- A whole group's bytes at its last character, behind which n characters stand, and what comes behind them; or its fault.
-abbrev pub group_at : ℕ → Fault → Option (List ℕ) → Run → Run
+abbrev pub group_at : ℕ → Stopped → Option (List ℕ) → Run → Run
 group_at n fault (Some bytes) r = acts_at (stamp n n) (elements_out bytes) r
 group_at n fault None r = Ends (stamp n n) (Halts (Stop fault))
 
 -- the input ends within a group, at n characters
-abbrev pub group_rest : ℕ → Fault → End → Run
+abbrev pub group_rest : ℕ → Stopped → End → Run
 group_rest n fault Ended = Ends (stamp (suc n) n) (Halts (Stop fault))
 group_rest n fault (Halted h) = past n (Halted h) Value.Unit
 
@@ -44,8 +44,8 @@ hex_byte None b = None
 -- groups of two from the left, where i characters stand before
 abbrev pub hex_from : ℕ → List Item → End → Run
 hex_from i [] e = past i e Value.Unit
-hex_from i (x ∷ []) e = group_rest (1 + i) (BadHex (as_count i)) e
-hex_from i (x ∷ y ∷ xs) e = group_at (2 + i) (BadHex (as_count i)) (hex_byte (hex_value (number x)) (hex_value (number y))) (hex_from (2 + i) xs e)
+hex_from i (x ∷ []) e = group_rest (1 + i) (bad_hex (as_count i)) e
+hex_from i (x ∷ y ∷ xs) e = group_at (2 + i) (bad_hex (as_count i)) (hex_byte (hex_value (number x)) (hex_value (number y))) (hex_from (2 + i) xs e)
 
 abbrev pub hex_decode : Component
 hex_decode = hex_from 0
@@ -125,11 +125,11 @@ base64_group a b c d =
 -- groups of four from the left, where i characters stand before; behind a padded group every group is bad
 abbrev pub base64_groups : ℕ → Bool → List Item → End → Run
 base64_groups i padded [] e = past i e Value.Unit
-base64_groups i padded (x ∷ []) e = group_rest (1 + i) (BadBase64 (as_count i)) e
-base64_groups i padded (x ∷ y ∷ []) e = group_rest (2 + i) (BadBase64 (as_count i)) e
-base64_groups i padded (x ∷ y ∷ z ∷ []) e = group_rest (3 + i) (BadBase64 (as_count i)) e
+base64_groups i padded (x ∷ []) e = group_rest (1 + i) (bad_base64 (as_count i)) e
+base64_groups i padded (x ∷ y ∷ []) e = group_rest (2 + i) (bad_base64 (as_count i)) e
+base64_groups i padded (x ∷ y ∷ z ∷ []) e = group_rest (3 + i) (bad_base64 (as_count i)) e
 base64_groups i padded (x ∷ y ∷ z ∷ u ∷ xs) e =
-    group_at (4 + i) (BadBase64 (as_count i)) (if padded then None else base64_group (number x) (number y) (number z) (number u)) (base64_groups (4 + i) (number u == padding) xs e)
+    group_at (4 + i) (bad_base64 (as_count i)) (if padded then None else base64_group (number x) (number y) (number z) (number u)) (base64_groups (4 + i) (number u == padding) xs e)
 
 abbrev pub base64_decode : Component
 base64_decode = base64_groups 0 false

@@ -1,13 +1,13 @@
 -- Words that read one value after another: what a word still does, from what it carries.
 use Rattle.std.specs.Prelude.{ℕ, suc, List, [], ◌∷◌, Option, Some, None}
-use Rattle.cd_meaning.specs.Stream.{Item, Value, Fault, Stop, End, Ended, Halted, Ending, Done, Halts, Act}
+use Rattle.cd_meaning.specs.Stream.{Item, Value, Stopped, Stop, End, Ended, Halted, Ending, Done, Halts, Act}
 use Rattle.cd_meaning.specs.Run.{stamp, Run, Ends, acts_at}
 
 -- what a word does on a value, where it carries an S
 pub data Reply (S : Type 0) : Type 0 where
   Go : List Act → S → Reply S
   Back : Value → Reply S
-  Fail : Fault → Reply S
+  Fail : Stopped → Reply S
 
 pub record Scan (S : Type 0) : Type 0 where
   -- the value, where no further value is asked for

@@ -1,6 +1,6 @@
 -- UTF-8 in both directions, by the Unicode Standard, Table 3-7 (well-formed UTF-8 byte sequences).
 use Rattle.std.specs.Prelude.{ℕ, suc, ◌+◌, ◌-◌, ◌*◌, ◌==◌, nat_lt, nat_le, Bool, ◌&&◌, if◌then◌else◌, List, [], ◌∷◌, Option, Some, None, encode_utf8}
-use Rattle.cd_meaning.specs.Stream.{Item, Elem, Value, BadText, Stop, End, Ended, Halted, Halts, Out}
+use Rattle.cd_meaning.specs.Stream.{Item, Elem, Value, bad_text, Stop, End, Ended, Halted, Halts, Out}
 use Rattle.cd_meaning.specs.Run.{stamp, Run, Then, Ends, Component, past}
 use Rattle.cd_meaning.specs.Words.{each_to_end, number, elements_out, as_count}
 
@@ -48,13 +48,13 @@ read_on i (r ∷ ranges) bits next = next (r ∷ ranges) bits
 
 -- the same, where a byte may be bad in a sequence before which at bytes stand
 abbrev pub read_byte : ℕ → ℕ → Option (List Range) → ℕ → (List Range → ℕ → Run) → Run
-read_byte at i None bits next = Ends (stamp i i) (Halts (Stop (BadText (as_count at))))
+read_byte at i None bits next = Ends (stamp i i) (Halts (Stop (bad_text (as_count at))))
 read_byte at i (Some ranges) bits next = read_on i ranges bits next
 
 -- i bytes stand before xs. Where ranges are to come, they end in the bits of a sequence before which at bytes stand.
 abbrev pub utf8_from : ℕ → ℕ → List Range → ℕ → List Item → End → Run
 utf8_from at i [] bits [] e = past i e Value.Unit
-utf8_from at i (r ∷ ranges) bits [] Ended = Ends (stamp (suc i) i) (Halts (Stop (BadText (as_count at))))
+utf8_from at i (r ∷ ranges) bits [] Ended = Ends (stamp (suc i) i) (Halts (Stop (bad_text (as_count at))))
 utf8_from at i (r ∷ ranges) bits [] (Halted h) = past i (Halted h) Value.Unit
 utf8_from at i [] bits (x ∷ xs) e = read_byte i (suc i) (following (number x)) (first_bits (number x)) (λ more now. utf8_from i (suc i) more now xs e)
 utf8_from at i (r ∷ ranges) bits (x ∷ xs) e =

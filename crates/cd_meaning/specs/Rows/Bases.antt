@@ -1,6 +1,6 @@
 -- Base16 and base64, on empty inputs, on inputs that end or wait, and on bad ones.
 use Rattle.std.specs.Prelude.{◌≡◌, refl, [], ◌∷◌, codes}
-use Rattle.cd_meaning.specs.Stream.{BadBase64, BadHex, Ended}
+use Rattle.cd_meaning.specs.Stream.{bad_base64, bad_hex, Ended}
 use Rattle.cd_meaning.specs.Meaning.{base64_decode_word, base64_encode_word, hex_decode_word, hex_encode_word}
 use Rattle.cd_meaning.specs.Rows.Given.{at_end, gives_elem, late_elem, on_bytes, stops_at, waiting, waits_past}
 
@@ -27,16 +27,16 @@ hex_decode_waits = refl
 hex_decode_waits_bad : on_bytes hex_decode_word (codes "G") waiting ≡ waits_past 1
 hex_decode_waits_bad = refl
 
-hex_decode_lone : on_bytes hex_decode_word (codes "4a4") Ended ≡ gives_elem 2 74 (stops_at 4 3 (BadHex 2))
+hex_decode_lone : on_bytes hex_decode_word (codes "4a4") Ended ≡ gives_elem 2 74 (stops_at 4 3 (bad_hex 2))
 hex_decode_lone = refl
 
-hex_decode_bad_first : on_bytes hex_decode_word (codes "4aG4") Ended ≡ gives_elem 2 74 (stops_at 4 4 (BadHex 2))
+hex_decode_bad_first : on_bytes hex_decode_word (codes "4aG4") Ended ≡ gives_elem 2 74 (stops_at 4 4 (bad_hex 2))
 hex_decode_bad_first = refl
 
-hex_decode_bad_second : on_bytes hex_decode_word (codes "4g") waiting ≡ stops_at 2 2 (BadHex 0)
+hex_decode_bad_second : on_bytes hex_decode_word (codes "4g") waiting ≡ stops_at 2 2 (bad_hex 0)
 hex_decode_bad_second = refl
 
-hex_decode_bad_between : on_bytes hex_decode_word (codes ":@") Ended ≡ stops_at 2 2 (BadHex 0)
+hex_decode_bad_between : on_bytes hex_decode_word (codes ":@") Ended ≡ stops_at 2 2 (bad_hex 0)
 hex_decode_bad_between = refl
 
 -- `base64Encode`: the words of RFC 4648, section 10
@@ -77,34 +77,34 @@ base64_decode_last_digits = refl
 base64_decode_waits : on_bytes base64_decode_word (codes "Zm9vY") waiting ≡ gives_elem 4 102 (gives_elem 4 111 (gives_elem 4 111 (waits_past 5)))
 base64_decode_waits = refl
 
-base64_decode_short : on_bytes base64_decode_word (codes "Zm9vYm") Ended ≡ gives_elem 4 102 (gives_elem 4 111 (gives_elem 4 111 (stops_at 7 6 (BadBase64 4))))
+base64_decode_short : on_bytes base64_decode_word (codes "Zm9vYm") Ended ≡ gives_elem 4 102 (gives_elem 4 111 (gives_elem 4 111 (stops_at 7 6 (bad_base64 4))))
 base64_decode_short = refl
 
-base64_decode_character : on_bytes base64_decode_word (codes "Zm-v") Ended ≡ stops_at 4 4 (BadBase64 0)
+base64_decode_character : on_bytes base64_decode_word (codes "Zm-v") Ended ≡ stops_at 4 4 (bad_base64 0)
 base64_decode_character = refl
 
-base64_decode_low_four : on_bytes base64_decode_word (codes "Zh==") Ended ≡ stops_at 4 4 (BadBase64 0)
+base64_decode_low_four : on_bytes base64_decode_word (codes "Zh==") Ended ≡ stops_at 4 4 (bad_base64 0)
 base64_decode_low_four = refl
 
-base64_decode_low_two : on_bytes base64_decode_word (codes "Zm9=") Ended ≡ stops_at 4 4 (BadBase64 0)
+base64_decode_low_two : on_bytes base64_decode_word (codes "Zm9=") Ended ≡ stops_at 4 4 (bad_base64 0)
 base64_decode_low_two = refl
 
-base64_decode_low_fourth : on_bytes base64_decode_word (codes "Zo==") Ended ≡ stops_at 4 4 (BadBase64 0)
+base64_decode_low_fourth : on_bytes base64_decode_word (codes "Zo==") Ended ≡ stops_at 4 4 (bad_base64 0)
 base64_decode_low_fourth = refl
 
-base64_decode_low_second : on_bytes base64_decode_word (codes "Zm+=") Ended ≡ stops_at 4 4 (BadBase64 0)
+base64_decode_low_second : on_bytes base64_decode_word (codes "Zm+=") Ended ≡ stops_at 4 4 (bad_base64 0)
 base64_decode_low_second = refl
 
-base64_decode_padding_within : on_bytes base64_decode_word (codes "Z=9v") Ended ≡ stops_at 4 4 (BadBase64 0)
+base64_decode_padding_within : on_bytes base64_decode_word (codes "Z=9v") Ended ≡ stops_at 4 4 (bad_base64 0)
 base64_decode_padding_within = refl
 
-base64_decode_padding_third : on_bytes base64_decode_word (codes "Zm=v") Ended ≡ stops_at 4 4 (BadBase64 0)
+base64_decode_padding_third : on_bytes base64_decode_word (codes "Zm=v") Ended ≡ stops_at 4 4 (bad_base64 0)
 base64_decode_padding_third = refl
 
-base64_decode_padding_all : on_bytes base64_decode_word (codes "====") Ended ≡ stops_at 4 4 (BadBase64 0)
+base64_decode_padding_all : on_bytes base64_decode_word (codes "====") Ended ≡ stops_at 4 4 (bad_base64 0)
 base64_decode_padding_all = refl
 
-base64_decode_behind_padding : on_bytes base64_decode_word (codes "Zg==Zm9v") Ended ≡ gives_elem 4 102 (stops_at 8 8 (BadBase64 4))
+base64_decode_behind_padding : on_bytes base64_decode_word (codes "Zg==Zm9v") Ended ≡ gives_elem 4 102 (stops_at 8 8 (bad_base64 4))
 base64_decode_behind_padding = refl
 
 base64_decode_rest_behind_padding : on_bytes base64_decode_word (codes "Zg==Z") waiting ≡ gives_elem 4 102 (waits_past 5)

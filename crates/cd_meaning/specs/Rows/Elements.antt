@@ -1,6 +1,6 @@
 -- The words on elements, each on an empty input, an input that ends before the word does, one that waits, and where the word ends by itself.
 use Rattle.std.specs.Prelude.{◌≡◌, refl, [], ◌∷◌, codes, true, false}
-use Rattle.cd_meaning.specs.Stream.{BadHex, Ended, Halted, Stop, Value, absent, present}
+use Rattle.cd_meaning.specs.Stream.{bad_hex, Ended, Halted, Stop, Value, absent, present}
 use Rattle.cd_meaning.specs.Classes.{add, digit, rot13, space, xor}
 use Rattle.cd_meaning.specs.Meaning.{all_e, any_e, collect_e, drop_e, drop_while_e, filter_e, head_e, last_e, length_e, map_e, null_e, pass_e, peek_e, repeat_e, sink_null, sum_e, take_e, take_while_e}
 use Rattle.cd_meaning.specs.Rows.Given.{at_end, done_at, gives_elem, on_blocks, on_bytes, on_chars, stops_at, waiting, waits_past}
@@ -15,7 +15,7 @@ pass_e_short = refl
 pass_e_waits : on_bytes pass_e (codes "ab") waiting ≡ gives_elem 1 97 (gives_elem 2 98 (waits_past 2))
 pass_e_waits = refl
 
-pass_e_fault : on_bytes pass_e (codes "a") (Halted (Stop (BadHex 7))) ≡ gives_elem 1 97 (stops_at 2 1 (BadHex 7))
+pass_e_fault : on_bytes pass_e (codes "a") (Halted (Stop (bad_hex 7))) ≡ gives_elem 1 97 (stops_at 2 1 (bad_hex 7))
 pass_e_fault = refl
 
 -- `takeE`: of three values it does not ask for the fourth

@@ -1,6 +1,6 @@
 -- Operators, sections, sequences and zips, with the stamps of the whole.
 use Rattle.std.specs.Prelude.{◌≡◌, refl, [], ◌∷◌, codes}
-use Rattle.cd_meaning.specs.Stream.{Another, BadHex, Ended, NoValues, Open, Put, Value, absent, present}
+use Rattle.cd_meaning.specs.Stream.{Another, bad_hex, Ended, NoValues, Open, Put, Value, absent, present}
 use Rattle.cd_meaning.specs.Words.{AtEnd, MayGoOn}
 use Rattle.cd_meaning.specs.Classes.{digit, empty, reversed, xor}
 use Rattle.cd_meaning.specs.Meaning.{blocks_word, chunks_of_word, drop_e, drop_word, exactly_e_form, exactly_form, filter_e, flat_word, head_e, head_word, hex_decode_word, length_e, length_word, line_e_form, lines_word, map_e, map_word, pass_e, pass_word, peek_e, peek_word, piped, piped_asked, piped_both, piped_keep, piped_return, piped_up, sequence_form, sink_file_word, sink_null, source_file_word, stdout_word, take_e, take_while_e, take_while_word, take_word, tee_form, texts_word, zip_conduit_form, zip_sink_form, zip_source_form}
@@ -25,7 +25,7 @@ piped_unasked = refl
 piped_leftover : on_bytes (piped pass_e peek_e) (codes "a") waiting ≡ done_at 1 1 (present (Value.Byte 97))
 piped_leftover = refl
 
-piped_fault : on_bytes (piped hex_decode_word pass_e) (codes "4a4") Ended ≡ gives_elem 2 74 (stops_at 4 3 (BadHex 2))
+piped_fault : on_bytes (piped hex_decode_word pass_e) (codes "4a4") Ended ≡ gives_elem 2 74 (stops_at 4 3 (bad_hex 2))
 piped_fault = refl
 
 piped_late : on_bytes (piped (chunks_of_word 2) flat_word) (codes "abc") Ended ≡ gives_elem 2 97 (gives_elem 2 98 (late_elem 3 99 (at_end 3)))
@@ -174,7 +174,7 @@ sequence_unasked = refl
 sequence_first_waits : on_bytes (sequence_form (drop_e 2) stdout_word) (codes "a") waiting ≡ waits_past 1
 sequence_first_waits = refl
 
-sequence_fault : on_bytes (sequence_form (drop_e 1) hex_decode_word) (codes "x4G") waiting ≡ stops_at 3 3 (BadHex 0)
+sequence_fault : on_bytes (sequence_form (drop_e 1) hex_decode_word) (codes "x4G") waiting ≡ stops_at 3 3 (bad_hex 0)
 sequence_fault = refl
 
 -- `zipSink`: at equal need the first part's acts come first

@@ -1,6 +1,6 @@
 -- How rows are written: inputs, and runs.
 use Rattle.std.specs.Prelude.{ℕ, ◌+◌, ◌==◌, if◌then◌else◌, List, [], ◌∷◌, map, Some, None}
-use Rattle.cd_meaning.specs.Stream.{Elem, Piece, Sort, Value, Input, Reading, Fault, More, Stop, End, Ended, Halted, Ending, Done, Halts, Out, Do, Effect, Put}
+use Rattle.cd_meaning.specs.Stream.{Elem, Piece, Sort, Value, Input, Reading, Stopped, More, Stop, End, Ended, Halted, Ending, Done, Halts, Out, Do, Effect, Put}
 use Rattle.cd_meaning.specs.Run.{stamp, Run, Then, Ends, effects, ending}
 use Rattle.cd_meaning.specs.ValueText.{value_text}
 use Rattle.cd_meaning.specs.Words.{Mark, MayGoOn, Told, Seen}
@@ -75,7 +75,7 @@ waits_past n = waits_at (n + 1) n
 abbrev pub waits_for : ℕ → Run
 waits_for s = Ends (stamp 0 0) (Halts (More (Reading s)))
 
-abbrev pub stops_at : ℕ → ℕ → Fault → Run
+abbrev pub stops_at : ℕ → ℕ → Stopped → Run
 stops_at need net f = Ends (stamp need net) (Halts (Stop f))
 
 -- what a script does, and how it ends, where this was told of its sites

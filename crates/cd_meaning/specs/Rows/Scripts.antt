@@ -2,7 +2,7 @@
 use Rattle.std.specs.Prelude.{◌≡◌, refl, ℕ, List, [], ◌∷◌, ◌++◌, codes}
 use lib.Utf8.{encode}
 use Rattle.std.specs.Fmt.{digits}
-use Rattle.cd_meaning.specs.Stream.{BadBase64, BadHex, BadText, Close, Done, Halts, Long, More, Open, Put, ReadBad, Reading, Stop, Value}
+use Rattle.cd_meaning.specs.Stream.{bad_base64, bad_hex, bad_text, Close, Done, Halts, Long, More, Open, Put, ReadBad, Reading, Stop, Value}
 use Rattle.cd_meaning.specs.Words.{AtEnd, Broken, MayGoOn, TooLong}
 use Rattle.cd_meaning.specs.Classes.{digit, not_class, space, suffix, xor}
 use Rattle.cd_meaning.specs.Meaning.{Meaning, Statement, base64_decode_word, blocks_word, chunks_of_word, collect_word, drop_e, drop_word, exact_word, exactly_e_form, exactly_form, filter_e, flat_word, head_word, hex_decode_word, length_e, length_word, lines_word, map_e, map_word, mark_form, pass_e, pass_word, peek_word, piped, piped_asked, piped_both, piped_keep, piped_return, range_word, repeat_word, replicate_word, run_statement, sequence_form, sink_file_word, source_file_word, stdout_word, take_e, take_while_e, take_word, tee_form, utf8_encode_word, utf8_lenient_word, utf8_word, zip_conduit_form, zip_sink_form}
@@ -134,7 +134,7 @@ decodes_base64_does = refl
 decodes_base64_short : does decodes_base64 (ended (codes "aGVsbG8")) ≡ Open 1 ∷ puts_at 2 (codes "hel") (Close 1 ∷ [])
 decodes_base64_short = refl
 
-decodes_base64_fault : ends_so decodes_base64 (ended (codes "aGVsbG8")) ≡ Halts (Stop (BadBase64 4))
+decodes_base64_fault : ends_so decodes_base64 (ended (codes "aGVsbG8")) ≡ Halts (Stop (bad_base64 4))
 decodes_base64_fault = refl
 
 -- `utf8`: the fault is met only where it is asked for
@@ -150,7 +150,7 @@ all_characters_does : does all_characters (ended (65 ∷ 255 ∷ [])) ≡ Open 1
 unfolding encode
 all_characters_does = refl
 
-all_characters_fault : ends_so all_characters (ended (65 ∷ 255 ∷ [])) ≡ Halts (Stop (BadText 1))
+all_characters_fault : ends_so all_characters (ended (65 ∷ 255 ∷ [])) ≡ Halts (Stop (bad_text 1))
 unfolding encode
 all_characters_fault = refl
 
@@ -211,13 +211,13 @@ counts_twice_does = refl
 decodes_hex_lone : does decodes_hex (ended (codes "4a4")) ≡ Open 1 ∷ Put 2 74 ∷ Close 1 ∷ []
 decodes_hex_lone = refl
 
-decodes_hex_lone_fault : ends_so decodes_hex (ended (codes "4a4")) ≡ Halts (Stop (BadHex 2))
+decodes_hex_lone_fault : ends_so decodes_hex (ended (codes "4a4")) ≡ Halts (Stop (bad_hex 2))
 decodes_hex_lone_fault = refl
 
 decodes_hex_bad : does decodes_hex (ended (codes "4G")) ≡ Open 1 ∷ []
 decodes_hex_bad = refl
 
-decodes_hex_bad_fault : ends_so decodes_hex (ended (codes "4G")) ≡ Halts (Stop (BadHex 0))
+decodes_hex_bad_fault : ends_so decodes_hex (ended (codes "4G")) ≡ Halts (Stop (bad_hex 0))
 decodes_hex_bad_fault = refl
 
 -- `mark "m" { sourceFile "a" } | { exactlyE 2 { sinkFile "x" }; stdout }`

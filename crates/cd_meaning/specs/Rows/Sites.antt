@@ -2,7 +2,7 @@
 use Rattle.std.specs.Prelude.{◌≡◌, refl, [], ◌∷◌, codes}
 use lib.Utf8.{encode}
 use Rattle.std.specs.Fmt.{digits}
-use Rattle.cd_meaning.specs.Stream.{BadHex, BadText, Close, Ended, Halted, Long, Open, Put, ReadBad, Stop, Value, present}
+use Rattle.cd_meaning.specs.Stream.{bad_hex, bad_text, Close, Ended, Halted, Long, Open, Put, ReadBad, Stop, Value, present}
 use Rattle.cd_meaning.specs.Words.{AtEnd, Broken, MayGoOn, TooLong}
 use Rattle.cd_meaning.specs.Meaning.{blocks_word, bytes_word, head_e, hex_decode_word, mark_form, pass_e, range_word, replicate_word, sink_file_word, source_file_word, stdin_word, stdout_word, take_e, text_word, texts_word}
 use Rattle.cd_meaning.specs.Rows.Given.{at_end, does_at, done_at, gives_elem, gives_piece, on_bytes, on_nothing, seen_of, stops_at, told_of, waiting, waits_for, waits_past}
@@ -95,7 +95,7 @@ sink_file_short = refl
 sink_file_waits : on_bytes sink_file_word (codes "a") waiting ≡ does_at 0 0 (Open 1) (does_at 1 1 (Put 1 97) (waits_past 1))
 sink_file_waits = refl
 
-sink_file_fault : on_bytes sink_file_word (codes "a") (Halted (Stop (BadText 4))) ≡ does_at 0 0 (Open 1) (does_at 1 1 (Put 1 97) (stops_at 2 1 (BadText 4)))
+sink_file_fault : on_bytes sink_file_word (codes "a") (Halted (Stop (bad_text 4))) ≡ does_at 0 0 (Open 1) (does_at 1 1 (Put 1 97) (stops_at 2 1 (bad_text 4)))
 sink_file_fault = refl
 
 -- `stdout`
@@ -118,7 +118,7 @@ mark_ends = refl
 mark_waits : on_bytes (mark_form (take_e 2)) (codes "a") waiting ≡ does_at 0 0 (Open 1) (gives_elem 1 97 (waits_past 1))
 mark_waits = refl
 
-mark_fault : on_bytes (mark_form hex_decode_word) (codes "GG") Ended ≡ does_at 0 0 (Open 1) (stops_at 2 2 (BadHex 0))
+mark_fault : on_bytes (mark_form hex_decode_word) (codes "GG") Ended ≡ does_at 0 0 (Open 1) (stops_at 2 2 (bad_hex 0))
 mark_fault = refl
 
 mark_sites : on_bytes (mark_form stdout_word) (codes "a") Ended ≡ does_at 0 0 (Open 1) (does_at 1 1 (Put 2 97) (does_at 2 1 (Close 1) (at_end 1)))

@@ -1,7 +1,7 @@
 -- UTF-8, on empty inputs, on inputs that end or wait, and on bad ones.
 use Rattle.std.specs.Prelude.{◌≡◌, refl, [], ◌∷◌}
 use lib.Utf8.{encode}
-use Rattle.cd_meaning.specs.Stream.{BadText, Ended, Halted, ReadBad, Stop}
+use Rattle.cd_meaning.specs.Stream.{bad_text, Ended, Halted, ReadBad, Stop}
 use Rattle.cd_meaning.specs.Meaning.{utf8_encode_word, utf8_lenient_word, utf8_word}
 use Rattle.cd_meaning.specs.Rows.Given.{at_end, gives_elem, late_elem, on_bytes, on_chars, stops_at, waiting, waits_past}
 
@@ -38,38 +38,38 @@ utf8_after_surrogates : on_bytes utf8_word (238 ∷ 128 ∷ 128 ∷ []) Ended �
 utf8_after_surrogates = refl
 
 -- bytes that begin nothing, and bytes that go nowhere
-utf8_bad_first : on_bytes utf8_word (65 ∷ 255 ∷ []) Ended ≡ gives_elem 1 65 (stops_at 2 2 (BadText 1))
+utf8_bad_first : on_bytes utf8_word (65 ∷ 255 ∷ []) Ended ≡ gives_elem 1 65 (stops_at 2 2 (bad_text 1))
 utf8_bad_first = refl
 
-utf8_bad_tail : on_bytes utf8_word (128 ∷ []) waiting ≡ stops_at 1 1 (BadText 0)
+utf8_bad_tail : on_bytes utf8_word (128 ∷ []) waiting ≡ stops_at 1 1 (bad_text 0)
 utf8_bad_tail = refl
 
-utf8_overlong_two : on_bytes utf8_word (192 ∷ 128 ∷ []) Ended ≡ stops_at 1 1 (BadText 0)
+utf8_overlong_two : on_bytes utf8_word (192 ∷ 128 ∷ []) Ended ≡ stops_at 1 1 (bad_text 0)
 utf8_overlong_two = refl
 
-utf8_overlong_last : on_bytes utf8_word (193 ∷ 191 ∷ []) Ended ≡ stops_at 1 1 (BadText 0)
+utf8_overlong_last : on_bytes utf8_word (193 ∷ 191 ∷ []) Ended ≡ stops_at 1 1 (bad_text 0)
 utf8_overlong_last = refl
 
-utf8_past_all : on_bytes utf8_word (245 ∷ []) waiting ≡ stops_at 1 1 (BadText 0)
+utf8_past_all : on_bytes utf8_word (245 ∷ []) waiting ≡ stops_at 1 1 (bad_text 0)
 utf8_past_all = refl
 
-utf8_overlong_three : on_bytes utf8_word (224 ∷ 159 ∷ []) Ended ≡ stops_at 2 2 (BadText 0)
+utf8_overlong_three : on_bytes utf8_word (224 ∷ 159 ∷ []) Ended ≡ stops_at 2 2 (bad_text 0)
 utf8_overlong_three = refl
 
-utf8_surrogate : on_bytes utf8_word (65 ∷ 237 ∷ 160 ∷ 128 ∷ []) Ended ≡ gives_elem 1 65 (stops_at 3 3 (BadText 1))
+utf8_surrogate : on_bytes utf8_word (65 ∷ 237 ∷ 160 ∷ 128 ∷ []) Ended ≡ gives_elem 1 65 (stops_at 3 3 (bad_text 1))
 utf8_surrogate = refl
 
-utf8_overlong_four : on_bytes utf8_word (240 ∷ 143 ∷ []) Ended ≡ stops_at 2 2 (BadText 0)
+utf8_overlong_four : on_bytes utf8_word (240 ∷ 143 ∷ []) Ended ≡ stops_at 2 2 (bad_text 0)
 utf8_overlong_four = refl
 
-utf8_past_last : on_bytes utf8_word (244 ∷ 144 ∷ []) Ended ≡ stops_at 2 2 (BadText 0)
+utf8_past_last : on_bytes utf8_word (244 ∷ 144 ∷ []) Ended ≡ stops_at 2 2 (bad_text 0)
 utf8_past_last = refl
 
-utf8_bad_later : on_bytes utf8_word (226 ∷ 130 ∷ 65 ∷ []) Ended ≡ stops_at 3 3 (BadText 0)
+utf8_bad_later : on_bytes utf8_word (226 ∷ 130 ∷ 65 ∷ []) Ended ≡ stops_at 3 3 (bad_text 0)
 utf8_bad_later = refl
 
 -- an unfinished character at the end
-utf8_unfinished : on_bytes utf8_word (65 ∷ 226 ∷ 130 ∷ []) Ended ≡ gives_elem 1 65 (stops_at 4 3 (BadText 1))
+utf8_unfinished : on_bytes utf8_word (65 ∷ 226 ∷ 130 ∷ []) Ended ≡ gives_elem 1 65 (stops_at 4 3 (bad_text 1))
 utf8_unfinished = refl
 
 utf8_unfinished_fault : on_bytes utf8_word (65 ∷ 226 ∷ []) (Halted (Stop (ReadBad 4))) ≡ gives_elem 1 65 (stops_at 3 2 (ReadBad 4))

@@ -2,7 +2,7 @@
 use Rattle.std.specs.Prelude.{List, [], ◌∷◌, ◌≡◌, refl, codes}
 use Rattle.std.specs.Fmt.{digits}
 use lib.Utf8.{encode}
-use Rattle.cd_meaning.specs.Stream.{Value, Reading, More, Stop, BadBase64, ReadBad, Done, Halts, Open, Put, Close}
+use Rattle.cd_meaning.specs.Stream.{Value, Reading, More, Stop, bad_base64, ReadBad, Done, Halts, Open, Put, Close}
 use Rattle.cd_meaning.specs.Run.{effects, ending}
 use Rattle.cd_meaning.specs.Words.{AtEnd, MayGoOn, Broken}
 use Rattle.cd_meaning.specs.Classes.{upper, alpha, hexdigit, is_scalar, empty, begins, ends, xor, rot13, prefix, suffix, reversed, not_class, not_test}
@@ -95,7 +95,7 @@ script_4_effects_1 : effects (script_run value_text (known 2 [] AtEnd (known 3 (
 unfolding digits encode
 script_4_effects_1 = refl
 
-script_4_ending_1 : ending (script_run value_text (known 2 [] AtEnd (known 3 (codes "a") AtEnd nothing_seen)) script_4) ≡ Halts (Stop (BadBase64 0))
+script_4_ending_1 : ending (script_run value_text (known 2 [] AtEnd (known 3 (codes "a") AtEnd nothing_seen)) script_4) ≡ Halts (Stop (bad_base64 0))
 unfolding digits encode
 script_4_ending_1 = refl
 
@@ -197,7 +197,7 @@ unfolding digits encode
 script_9_effects_1 = refl
 
 script_9_ending_1 : ending (script_run value_text (known 2 (0 ∷ 0 ∷ 0 ∷ 3 ∷ 0 ∷ 0 ∷ 0 ∷ 0 ∷ 0 ∷ 0 ∷ 3 ∷ 98 ∷ 97 ∷ 98 ∷ 0 ∷ 0 ∷ 0 ∷ 0 ∷ []) AtEnd
-    nothing_seen) script_9) ≡ Halts (Stop (BadBase64 0))
+    nothing_seen) script_9) ≡ Halts (Stop (bad_base64 0))
 unfolding digits encode
 script_9_ending_1 = refl
 
@@ -205,7 +205,7 @@ script_9_effects_2 : effects (script_run value_text (known 2 (0 ∷ 0 ∷ 0 ∷ 
 unfolding digits encode
 script_9_effects_2 = refl
 
-script_9_ending_2 : ending (script_run value_text (known 2 (0 ∷ 0 ∷ 0 ∷ 3 ∷ []) Broken nothing_seen) script_9) ≡ Halts (Stop (BadBase64 0))
+script_9_ending_2 : ending (script_run value_text (known 2 (0 ∷ 0 ∷ 0 ∷ 3 ∷ []) Broken nothing_seen) script_9) ≡ Halts (Stop (bad_base64 0))
 unfolding digits encode
 script_9_ending_2 = refl
 

@@ -2,7 +2,7 @@
 use Rattle.std.specs.Prelude.{List, [], ◌∷◌, ◌≡◌, refl, codes}
 use Rattle.std.specs.Fmt.{digits}
 use lib.Utf8.{encode}
-use Rattle.cd_meaning.specs.Stream.{Value, Reading, More, Stop, BadHex, BadBase64, ReadBad, Done, Halts, Open, Put, Close}
+use Rattle.cd_meaning.specs.Stream.{Value, Reading, More, Stop, bad_hex, bad_base64, ReadBad, Done, Halts, Open, Put, Close}
 use Rattle.cd_meaning.specs.Run.{effects, ending}
 use Rattle.cd_meaning.specs.Words.{AtEnd, MayGoOn, Broken}
 use Rattle.cd_meaning.specs.Classes.{digit, alpha, alnum, space, newline, below, empty, begins, ends, shorter, add, prefix, suffix, reversed, not_class, not_test}
@@ -253,7 +253,7 @@ script_32_effects_1 = refl
 
 script_32_ending_1 : ending (script_run value_text (known 1 (0 ∷ 0 ∷ 0 ∷ 1 ∷ 98 ∷ 0 ∷ 0 ∷ 0 ∷ 0 ∷ 0 ∷ 0 ∷ 0 ∷ 3 ∷ 97 ∷ 97 ∷ 97 ∷ 0 ∷ []) AtEnd (known
     2 (120 ∷ 97 ∷ 45 ∷ 97 ∷ 97 ∷ 45 ∷ 45 ∷ 98 ∷ 99 ∷ 44 ∷ 98 ∷ 120 ∷ 49 ∷ 32 ∷ 49 ∷ 32 ∷ 99 ∷ 98 ∷ 120 ∷ 98 ∷ []) AtEnd nothing_seen)) script_32) ≡
-    Halts (Stop (BadHex 0))
+    Halts (Stop (bad_hex 0))
 unfolding digits encode
 script_32_ending_1 = refl
 
@@ -263,7 +263,7 @@ unfolding digits encode
 script_32_effects_2 = refl
 
 script_32_ending_2 : ending (script_run value_text (known 1 (0 ∷ 0 ∷ 0 ∷ 1 ∷ 98 ∷ 0 ∷ 0 ∷ 0 ∷ 0 ∷ []) MayGoOn (known 2 (codes "xa-aa--bc,") MayGoOn
-    nothing_seen)) script_32) ≡ Halts (Stop (BadHex 0))
+    nothing_seen)) script_32) ≡ Halts (Stop (bad_hex 0))
 unfolding digits encode
 script_32_ending_2 = refl
 
@@ -362,7 +362,7 @@ script_38_effects_1 : effects (script_run value_text (known 1 (120 ∷ 97 ∷ 98
 unfolding digits encode
 script_38_effects_1 = refl
 
-script_38_ending_1 : ending (script_run value_text (known 1 (120 ∷ 97 ∷ 98 ∷ 10 ∷ []) AtEnd nothing_seen) script_38) ≡ Halts (Stop (BadBase64 0))
+script_38_ending_1 : ending (script_run value_text (known 1 (120 ∷ 97 ∷ 98 ∷ 10 ∷ []) AtEnd nothing_seen) script_38) ≡ Halts (Stop (bad_base64 0))
 unfolding digits encode
 script_38_ending_1 = refl
 
@@ -384,7 +384,7 @@ script_39_effects_1 : effects (script_run value_text (known 1 (codes "2:a1,2:1a,
 unfolding digits encode
 script_39_effects_1 = refl
 
-script_39_ending_1 : ending (script_run value_text (known 1 (codes "2:a1,2:1a,2:b:,1:ab") AtEnd nothing_seen) script_39) ≡ Halts (Stop (BadBase64 0))
+script_39_ending_1 : ending (script_run value_text (known 1 (codes "2:a1,2:1a,2:b:,1:ab") AtEnd nothing_seen) script_39) ≡ Halts (Stop (bad_base64 0))
 unfolding digits encode
 script_39_ending_1 = refl
 

@@ -2,7 +2,7 @@
 use Rattle.std.specs.Prelude.{List, [], ◌∷◌, ◌≡◌, refl, codes}
 use Rattle.std.specs.Fmt.{digits}
 use lib.Utf8.{encode}
-use Rattle.cd_meaning.specs.Stream.{Value, Reading, More, Stop, BadBase64, ReadBad, Done, Halts, Open, Put, Close}
+use Rattle.cd_meaning.specs.Stream.{Value, Reading, More, Stop, bad_base64, ReadBad, Done, Halts, Open, Put, Close}
 use Rattle.cd_meaning.specs.Run.{effects, ending}
 use Rattle.cd_meaning.specs.Words.{AtEnd, MayGoOn, Broken}
 use Rattle.cd_meaning.specs.Classes.{digit, upper, lower, alnum, newline, is_scalar, empty, begins, shorter, add, rot13, prefix, suffix, reversed, not_class, not_test}
@@ -157,7 +157,7 @@ unfolding digits encode
 script_53_effects_1 = refl
 
 script_53_ending_1 : ending (script_run value_text (known 1 (49 ∷ 32 ∷ 97 ∷ 10 ∷ 32 ∷ 97 ∷ 45 ∷ 32 ∷ 97 ∷ 44 ∷ 98 ∷ 99 ∷ 98 ∷ []) AtEnd nothing_seen)
-    script_53) ≡ Halts (Stop (BadBase64 0))
+    script_53) ≡ Halts (Stop (bad_base64 0))
 unfolding digits encode
 script_53_ending_1 = refl
 
@@ -167,7 +167,7 @@ unfolding digits encode
 script_53_effects_2 = refl
 
 script_53_ending_2 : ending (script_run value_text (known 1 (49 ∷ 32 ∷ 97 ∷ 10 ∷ 32 ∷ 97 ∷ 45 ∷ 32 ∷ 97 ∷ 44 ∷ 98 ∷ 99 ∷ []) MayGoOn nothing_seen)
-    script_53) ≡ Halts (Stop (BadBase64 0))
+    script_53) ≡ Halts (Stop (bad_base64 0))
 unfolding digits encode
 script_53_ending_2 = refl
 

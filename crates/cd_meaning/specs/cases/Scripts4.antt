@@ -2,7 +2,7 @@
 use Rattle.std.specs.Prelude.{List, [], ◌∷◌, ◌≡◌, refl, codes}
 use Rattle.std.specs.Fmt.{digits}
 use lib.Utf8.{encode}
-use Rattle.cd_meaning.specs.Stream.{Value, Reading, More, Stop, BadHex, ReadBad, Done, Halts, Open, Put, Close}
+use Rattle.cd_meaning.specs.Stream.{Value, Reading, More, Stop, bad_hex, ReadBad, Done, Halts, Open, Put, Close}
 use Rattle.cd_meaning.specs.Run.{effects, ending}
 use Rattle.cd_meaning.specs.Words.{AtEnd, MayGoOn, Broken}
 use Rattle.cd_meaning.specs.Classes.{upper, alpha, hexdigit, space, newline, is_scalar, begins, ends, shorter, xor, add, rot13, suffix, reversed, not_test}
@@ -61,7 +61,7 @@ script_81_effects_1 : effects (script_run value_text (known 1 (98 ∷ 10 ∷ 98 
 unfolding digits encode
 script_81_effects_1 = refl
 
-script_81_ending_1 : ending (script_run value_text (known 1 (98 ∷ 10 ∷ 98 ∷ 97 ∷ []) AtEnd nothing_seen) script_81) ≡ Halts (Stop (BadHex 0))
+script_81_ending_1 : ending (script_run value_text (known 1 (98 ∷ 10 ∷ 98 ∷ 97 ∷ []) AtEnd nothing_seen) script_81) ≡ Halts (Stop (bad_hex 0))
 unfolding digits encode
 script_81_ending_1 = refl
 
@@ -299,7 +299,7 @@ script_104_effects_1 : effects (script_run value_text (known 2 (codes "514") AtE
 unfolding digits encode
 script_104_effects_1 = refl
 
-script_104_ending_1 : ending (script_run value_text (known 2 (codes "514") AtEnd nothing_seen) script_104) ≡ Halts (Stop (BadHex 2))
+script_104_ending_1 : ending (script_run value_text (known 2 (codes "514") AtEnd nothing_seen) script_104) ≡ Halts (Stop (bad_hex 2))
 unfolding digits encode
 script_104_ending_1 = refl
 

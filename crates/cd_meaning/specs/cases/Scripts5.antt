@@ -2,7 +2,7 @@
 use Rattle.std.specs.Prelude.{List, [], ◌∷◌, ◌≡◌, refl, codes}
 use Rattle.std.specs.Fmt.{digits}
 use lib.Utf8.{encode}
-use Rattle.cd_meaning.specs.Stream.{Value, Reading, More, Stop, BadText, BadHex, ReadBad, Done, Halts, Open, Put, Close}
+use Rattle.cd_meaning.specs.Stream.{Value, Reading, More, Stop, bad_text, bad_hex, ReadBad, Done, Halts, Open, Put, Close}
 use Rattle.cd_meaning.specs.Run.{effects, ending}
 use Rattle.cd_meaning.specs.Words.{AtEnd, MayGoOn, Broken}
 use Rattle.cd_meaning.specs.Classes.{digit, alpha, is_scalar, below, xor, add, rot13, prefix, suffix, reversed, not_class}
@@ -85,7 +85,7 @@ script_148_effects_1 : effects (script_run value_text (known 3 (codes "e") AtEnd
 unfolding digits encode
 script_148_effects_1 = refl
 
-script_148_ending_1 : ending (script_run value_text (known 3 (codes "e") AtEnd nothing_seen) script_148) ≡ Halts (Stop (BadHex 0))
+script_148_ending_1 : ending (script_run value_text (known 3 (codes "e") AtEnd nothing_seen) script_148) ≡ Halts (Stop (bad_hex 0))
 unfolding digits encode
 script_148_ending_1 = refl
 
@@ -93,7 +93,7 @@ script_148_effects_2 : effects (script_run value_text (known 3 (codes "e") Broke
 unfolding digits encode
 script_148_effects_2 = refl
 
-script_148_ending_2 : ending (script_run value_text (known 3 (codes "e") Broken nothing_seen) script_148) ≡ Halts (Stop (BadHex 0))
+script_148_ending_2 : ending (script_run value_text (known 3 (codes "e") Broken nothing_seen) script_148) ≡ Halts (Stop (bad_hex 0))
 unfolding digits encode
 script_148_ending_2 = refl
 
@@ -189,7 +189,7 @@ unfolding digits encode
 script_181_effects_1 = refl
 
 script_181_ending_1 : ending (script_run value_text (known 1 (112 ∷ 82 ∷ 229 ∷ 126 ∷ 130 ∷ 104 ∷ 142 ∷ 125 ∷ 159 ∷ 120 ∷ 248 ∷ 195 ∷ 11 ∷ 160 ∷ 167 ∷
-    240 ∷ 101 ∷ 11 ∷ 173 ∷ 229 ∷ []) AtEnd nothing_seen) script_181) ≡ Halts (Stop (BadText 2))
+    240 ∷ 101 ∷ 11 ∷ 173 ∷ 229 ∷ []) AtEnd nothing_seen) script_181) ≡ Halts (Stop (bad_text 2))
 unfolding digits encode
 script_181_ending_1 = refl
 
@@ -199,7 +199,7 @@ unfolding digits encode
 script_181_effects_2 = refl
 
 script_181_ending_2 : ending (script_run value_text (known 1 (112 ∷ 82 ∷ 229 ∷ 126 ∷ 130 ∷ 104 ∷ []) Broken nothing_seen) script_181) ≡ Halts (Stop
-    (BadText 2))
+    (bad_text 2))
 unfolding digits encode
 script_181_ending_2 = refl
 
@@ -242,7 +242,7 @@ unfolding digits encode
 script_213_effects_1 = refl
 
 script_213_ending_1 : ending (script_run value_text (known 1 (97 ∷ 240 ∷ 159 ∷ 152 ∷ 128 ∷ 226 ∷ 130 ∷ []) AtEnd nothing_seen) script_213) ≡ Halts
-    (Stop (BadText 0))
+    (Stop (bad_text 0))
 unfolding digits encode
 script_213_ending_1 = refl
 
@@ -253,7 +253,7 @@ unfolding digits encode
 script_213_effects_2 = refl
 
 script_213_ending_2 : ending (script_run value_text (known 1 (97 ∷ 240 ∷ 159 ∷ 152 ∷ 128 ∷ []) MayGoOn nothing_seen) script_213) ≡ Halts (Stop
-    (BadText 0))
+    (bad_text 0))
 unfolding digits encode
 script_213_ending_2 = refl
 

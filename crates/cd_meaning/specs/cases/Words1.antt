@@ -1,6 +1,6 @@
 -- Cases of tools/cases/words.jsonl, written by tools/cases.py: the number in a name is the line of the case.
 use Rattle.std.specs.Prelude.{[], ◌∷◌, ◌≡◌, refl, codes, map, true, false}
-use Rattle.cd_meaning.specs.Stream.{Sort, Elem, Piece, Value, absent, present, NoValues, Another, Reading, More, Stop, BadHex, BadBase64, Ended, Halted, Done, Halts, Out}
+use Rattle.cd_meaning.specs.Stream.{Sort, Elem, Piece, Value, absent, present, NoValues, Another, Reading, More, Stop, bad_hex, bad_base64, Ended, Halted, Done, Halts, Out}
 use Rattle.cd_meaning.specs.Run.{stamp, Then, Ends}
 use Rattle.cd_meaning.specs.Classes.{digit, upper, lower, alpha, alnum, hexdigit, space, newline, is_scalar, below, empty, begins, ends, shorter, not_class, not_test}
 use Rattle.cd_meaning.specs.Meaning.{filter_e, drop_e, drop_while_e, head_e, last_e, all_e, any_e, collect_e, filter_word, intersperse_word, drop_word, drop_while_word, head_word, last_word, length_word, collect_word, exact_word, chunks_of_word, flat_word, hex_encode_word, hex_decode_word, base64_encode_word, base64_decode_word}
@@ -24,8 +24,8 @@ word_4 : word_run (all_e alnum) Sort.Bytes [] Ended ≡ Ends (stamp 1 0) (Done (
 word_4 = refl
 
 -- allE not is "1"
-word_5 : word_run (all_e (not_class (is_scalar 49))) Sort.Chars (map Elem (8364 ∷ 52 ∷ 97 ∷ 8364 ∷ 52 ∷ 61 ∷ 65 ∷ [])) (Halted (Stop (BadHex 7))) ≡
-    Ends (stamp 8 7) (Halts (Stop (BadHex 7)))
+word_5 : word_run (all_e (not_class (is_scalar 49))) Sort.Chars (map Elem (8364 ∷ 52 ∷ 97 ∷ 8364 ∷ 52 ∷ 61 ∷ 65 ∷ [])) (Halted (Stop (bad_hex 7))) ≡
+    Ends (stamp 8 7) (Halts (Stop (bad_hex 7)))
 word_5 = refl
 
 -- allE not space
@@ -61,7 +61,7 @@ word_12 : word_run (any_e alpha) Sort.Chars (map Elem (128512 ∷ 98 ∷ 49 ∷ 
 word_12 = refl
 
 -- anyE not upper
-word_13 : word_run (any_e (not_class upper)) Sort.Bytes (map Elem (98 ∷ 65 ∷ 130 ∷ 98 ∷ [])) (Halted (Stop (BadHex 7))) ≡ Ends (stamp 1 1) (Done
+word_13 : word_run (any_e (not_class upper)) Sort.Bytes (map Elem (98 ∷ 65 ∷ 130 ∷ 98 ∷ [])) (Halted (Stop (bad_hex 7))) ≡ Ends (stamp 1 1) (Done
     (Value.Bool true))
 word_13 = refl
 
@@ -83,20 +83,20 @@ word_17 : word_run base64_decode_word Sort.Bytes (map Elem (codes "P49I/w==")) E
 word_17 = refl
 
 -- base64Decode
-word_18 : word_run base64_decode_word Sort.Bytes (map Elem (codes "Y+7")) Ended ≡ Ends (stamp 4 3) (Halts (Stop (BadBase64 0)))
+word_18 : word_run base64_decode_word Sort.Bytes (map Elem (codes "Y+7")) Ended ≡ Ends (stamp 4 3) (Halts (Stop (bad_base64 0)))
 word_18 = refl
 
 -- base64Decode
-word_19 : word_run base64_decode_word Sort.Bytes (map Elem (10 ∷ 226 ∷ 0 ∷ [])) Ended ≡ Ends (stamp 4 3) (Halts (Stop (BadBase64 0)))
+word_19 : word_run base64_decode_word Sort.Bytes (map Elem (10 ∷ 226 ∷ 0 ∷ [])) Ended ≡ Ends (stamp 4 3) (Halts (Stop (bad_base64 0)))
 word_19 = refl
 
 -- base64Decode
-word_20 : word_run base64_decode_word Sort.Bytes (map Elem (0 ∷ 10 ∷ 52 ∷ 52 ∷ [])) Ended ≡ Ends (stamp 4 4) (Halts (Stop (BadBase64 0)))
+word_20 : word_run base64_decode_word Sort.Bytes (map Elem (0 ∷ 10 ∷ 52 ∷ 52 ∷ [])) Ended ≡ Ends (stamp 4 4) (Halts (Stop (bad_base64 0)))
 word_20 = refl
 
 -- base64Decode
 word_21 : word_run base64_decode_word Sort.Bytes (map Elem (codes "z/c=!")) Ended ≡ Then (stamp 4 4) (Out (Elem 207)) (Then (stamp 4 4) (Out (Elem
-    247)) (Ends (stamp 6 5) (Halts (Stop (BadBase64 4)))))
+    247)) (Ends (stamp 6 5) (Halts (Stop (bad_base64 4)))))
 word_21 = refl
 
 -- base64Decode
@@ -115,11 +115,11 @@ word_26 : word_run base64_encode_word Sort.Bytes (map Elem (61 ∷ 13 ∷ [])) (
 word_26 = refl
 
 -- base64Encode
-word_27 : word_run base64_encode_word Sort.Bytes (map Elem (226 ∷ 32 ∷ 32 ∷ 32 ∷ 226 ∷ 52 ∷ 172 ∷ 0 ∷ 65 ∷ [])) (Halted (Stop (BadHex 7))) ≡ Then
+word_27 : word_run base64_encode_word Sort.Bytes (map Elem (226 ∷ 32 ∷ 32 ∷ 32 ∷ 226 ∷ 52 ∷ 172 ∷ 0 ∷ 65 ∷ [])) (Halted (Stop (bad_hex 7))) ≡ Then
     (stamp 3 3) (Out (Elem 52)) (Then (stamp 3 3) (Out (Elem 105)) (Then (stamp 3 3) (Out (Elem 65)) (Then (stamp 3 3) (Out (Elem 103)) (Then (stamp 6
     6) (Out (Elem 73)) (Then (stamp 6 6) (Out (Elem 79)) (Then (stamp 6 6) (Out (Elem 73)) (Then (stamp 6 6) (Out (Elem 48)) (Then (stamp 9 9) (Out
     (Elem 114)) (Then (stamp 9 9) (Out (Elem 65)) (Then (stamp 9 9) (Out (Elem 66)) (Then (stamp 9 9) (Out (Elem 66)) (Ends (stamp 10 9) (Halts (Stop
-    (BadHex 7)))))))))))))))
+    (bad_hex 7)))))))))))))))
 word_27 = refl
 
 -- chunksOf 2
@@ -132,7 +132,7 @@ word_34 : word_run (chunks_of_word 2) Sort.Chars [] Ended ≡ Ends (stamp 1 0) (
 word_34 = refl
 
 -- chunksOf 3
-word_35 : word_run (chunks_of_word 3) Sort.Chars (map Elem (128512 ∷ 61 ∷ [])) (Halted (Stop (BadHex 7))) ≡ Ends (stamp 3 2) (Halts (Stop (BadHex 7)))
+word_35 : word_run (chunks_of_word 3) Sort.Chars (map Elem (128512 ∷ 61 ∷ [])) (Halted (Stop (bad_hex 7))) ≡ Ends (stamp 3 2) (Halts (Stop (bad_hex 7)))
 word_35 = refl
 
 -- chunksOf 3
@@ -169,7 +169,7 @@ word_46 : word_run (collect_word 3) Sort.Text (map Piece ([] ∷ (codes "aA") �
 word_46 = refl
 
 -- collectE 50
-word_49 : word_run (collect_e 50) Sort.Chars [] (Halted (Stop (BadHex 7))) ≡ Ends (stamp 1 0) (Halts (Stop (BadHex 7)))
+word_49 : word_run (collect_e 50) Sort.Chars [] (Halted (Stop (bad_hex 7))) ≡ Ends (stamp 1 0) (Halts (Stop (bad_hex 7)))
 word_49 = refl
 
 -- collectE 2
@@ -177,8 +177,8 @@ word_50 : word_run (collect_e 2) Sort.Bytes (map Elem (13 ∷ [])) Ended ≡ End
 word_50 = refl
 
 -- collectE 50
-word_51 : word_run (collect_e 50) Sort.Bytes (map Elem (0 ∷ 61 ∷ 13 ∷ 10 ∷ 71 ∷ 0 ∷ 13 ∷ 0 ∷ 61 ∷ [])) (Halted (Stop (BadHex 7))) ≡ Ends (stamp 10 9)
-    (Halts (Stop (BadHex 7)))
+word_51 : word_run (collect_e 50) Sort.Bytes (map Elem (0 ∷ 61 ∷ 13 ∷ 10 ∷ 71 ∷ 0 ∷ 13 ∷ 0 ∷ 61 ∷ [])) (Halted (Stop (bad_hex 7))) ≡ Ends (stamp 10 9)
+    (Halts (Stop (bad_hex 7)))
 word_51 = refl
 
 -- drop 9
@@ -194,7 +194,7 @@ word_59 : word_run (drop_word 3) Sort.Block (map Piece ((13 ∷ 32 ∷ []) ∷ [
 word_59 = refl
 
 -- dropE 4
-word_65 : word_run (drop_e 4) Sort.Bytes (map Elem (49 ∷ 32 ∷ 97 ∷ 71 ∷ 65 ∷ [])) (Halted (Stop (BadHex 7))) ≡ Ends (stamp 4 4) (Done Value.Unit)
+word_65 : word_run (drop_e 4) Sort.Bytes (map Elem (49 ∷ 32 ∷ 97 ∷ 71 ∷ 65 ∷ [])) (Halted (Stop (bad_hex 7))) ≡ Ends (stamp 4 4) (Done Value.Unit)
 word_65 = refl
 
 -- dropE 5
@@ -202,7 +202,7 @@ word_66 : word_run (drop_e 5) Sort.Chars (map Elem (codes "a")) Ended ≡ Ends (
 word_66 = refl
 
 -- dropE 4
-word_67 : word_run (drop_e 4) Sort.Bytes (map Elem (226 ∷ 97 ∷ 52 ∷ 226 ∷ 255 ∷ 48 ∷ 52 ∷ [])) (Halted (Stop (BadHex 7))) ≡ Ends (stamp 4 4) (Done
+word_67 : word_run (drop_e 4) Sort.Bytes (map Elem (226 ∷ 97 ∷ 52 ∷ 226 ∷ 255 ∷ 48 ∷ 52 ∷ [])) (Halted (Stop (bad_hex 7))) ≡ Ends (stamp 4 4) (Done
     Value.Unit)
 word_67 = refl
 
@@ -232,7 +232,7 @@ word_77 = refl
 
 -- dropWhile begins "éx\n\n"
 word_78 : word_run (drop_while_word (begins (195 ∷ 169 ∷ 120 ∷ 10 ∷ 10 ∷ []))) Sort.Text (map Piece ((8364 ∷ []) ∷ (233 ∷ []) ∷ (32 ∷ 13 ∷ []) ∷
-    (codes "A") ∷ (65 ∷ 128512 ∷ []) ∷ [])) (Halted (Stop (BadHex 7))) ≡ Ends (stamp 1 0) (Done Value.Unit)
+    (codes "A") ∷ (65 ∷ 128512 ∷ []) ∷ [])) (Halted (Stop (bad_hex 7))) ≡ Ends (stamp 1 0) (Done Value.Unit)
 word_78 = refl
 
 -- dropWhile not begins "0ab"
@@ -258,7 +258,7 @@ word_83 : word_run (drop_while_e (below 9000)) Sort.Chars [] (Halted (More (Read
 word_83 = refl
 
 -- dropWhileE not space
-word_84 : word_run (drop_while_e (not_class space)) Sort.Chars (map Elem (49 ∷ 32 ∷ 98 ∷ 65 ∷ 48 ∷ [])) (Halted (Stop (BadHex 7))) ≡ Ends (stamp 2 1)
+word_84 : word_run (drop_while_e (not_class space)) Sort.Chars (map Elem (49 ∷ 32 ∷ 98 ∷ 65 ∷ 48 ∷ [])) (Halted (Stop (bad_hex 7))) ≡ Ends (stamp 2 1)
     (Done Value.Unit)
 word_84 = refl
 
@@ -284,9 +284,9 @@ word_89 : word_run (exact_word 3) Sort.Bytes [] Ended ≡ Ends (stamp 1 0) (Done
 word_89 = refl
 
 -- exact 1
-word_90 : word_run (exact_word 1) Sort.Chars (map Elem (10 ∷ 32 ∷ 97 ∷ 233 ∷ 65 ∷ [])) (Halted (Stop (BadHex 7))) ≡ Then (stamp 1 1) (Out (Piece (10 ∷
+word_90 : word_run (exact_word 1) Sort.Chars (map Elem (10 ∷ 32 ∷ 97 ∷ 233 ∷ 65 ∷ [])) (Halted (Stop (bad_hex 7))) ≡ Then (stamp 1 1) (Out (Piece (10 ∷
     []))) (Then (stamp 2 2) (Out (Piece (32 ∷ []))) (Then (stamp 3 3) (Out (Piece (codes "a"))) (Then (stamp 4 4) (Out (Piece (233 ∷ []))) (Then
-    (stamp 5 5) (Out (Piece (codes "A"))) (Ends (stamp 6 5) (Halts (Stop (BadHex 7))))))))
+    (stamp 5 5) (Out (Piece (codes "A"))) (Ends (stamp 6 5) (Halts (Stop (bad_hex 7))))))))
 word_90 = refl
 
 -- exact 2
@@ -300,7 +300,7 @@ word_97 : word_run (filter_word (not_test (shorter 5))) Sort.Text (map Piece ((2
 word_97 = refl
 
 -- filter begins "😀"
-word_98 : word_run (filter_word (begins (240 ∷ 159 ∷ 152 ∷ 128 ∷ []))) Sort.Text [] (Halted (Stop (BadHex 7))) ≡ Ends (stamp 1 0) (Halts (Stop (BadHex
+word_98 : word_run (filter_word (begins (240 ∷ 159 ∷ 152 ∷ 128 ∷ []))) Sort.Text [] (Halted (Stop (bad_hex 7))) ≡ Ends (stamp 1 0) (Halts (Stop (bad_hex
     7)))
 word_98 = refl
 
@@ -332,7 +332,7 @@ word_107 : word_run (filter_e lower) Sort.Bytes (map Elem (97 ∷ 61 ∷ 98 ∷ 
 word_107 = refl
 
 -- filterE not is "\r"
-word_110 : word_run (filter_e (not_class (is_scalar 13))) Sort.Bytes [] (Halted (Stop (BadHex 7))) ≡ Ends (stamp 1 0) (Halts (Stop (BadHex 7)))
+word_110 : word_run (filter_e (not_class (is_scalar 13))) Sort.Bytes [] (Halted (Stop (bad_hex 7))) ≡ Ends (stamp 1 0) (Halts (Stop (bad_hex 7)))
 word_110 = refl
 
 -- filterE below 256
@@ -344,14 +344,14 @@ word_112 = refl
 
 -- flat
 word_113 : word_run flat_word Sort.Block (map Piece ((13 ∷ 65 ∷ 65 ∷ []) ∷ (233 ∷ 49 ∷ []) ∷ (codes "G4") ∷ (codes "Ab=") ∷ (172 ∷ []) ∷ [])) (Halted
-    (Stop (BadHex 7))) ≡ Then (stamp 1 1) (Out (Elem 13)) (Then (stamp 1 1) (Out (Elem 65)) (Then (stamp 1 1) (Out (Elem 65)) (Then (stamp 2 2) (Out
+    (Stop (bad_hex 7))) ≡ Then (stamp 1 1) (Out (Elem 13)) (Then (stamp 1 1) (Out (Elem 65)) (Then (stamp 1 1) (Out (Elem 65)) (Then (stamp 2 2) (Out
     (Elem 233)) (Then (stamp 2 2) (Out (Elem 49)) (Then (stamp 3 3) (Out (Elem 71)) (Then (stamp 3 3) (Out (Elem 52)) (Then (stamp 4 4) (Out (Elem
-    65)) (Then (stamp 4 4) (Out (Elem 98)) (Then (stamp 4 4) (Out (Elem 61)) (Then (stamp 5 5) (Out (Elem 172)) (Ends (stamp 6 5) (Halts (Stop (BadHex
+    65)) (Then (stamp 4 4) (Out (Elem 98)) (Then (stamp 4 4) (Out (Elem 61)) (Then (stamp 5 5) (Out (Elem 172)) (Ends (stamp 6 5) (Halts (Stop (bad_hex
     7))))))))))))))
 word_113 = refl
 
 -- flat
-word_114 : word_run flat_word Sort.Text [] (Halted (Stop (BadHex 7))) ≡ Ends (stamp 1 0) (Halts (Stop (BadHex 7)))
+word_114 : word_run flat_word Sort.Text [] (Halted (Stop (bad_hex 7))) ≡ Ends (stamp 1 0) (Halts (Stop (bad_hex 7)))
 word_114 = refl
 
 -- flat
@@ -385,7 +385,7 @@ word_130 : word_run head_e Sort.Chars (map Elem (52 ∷ 8364 ∷ 61 ∷ 13 ∷ 1
 word_130 = refl
 
 -- headE
-word_131 : word_run head_e Sort.Chars (map Elem (98 ∷ 52 ∷ 233 ∷ 61 ∷ [])) (Halted (Stop (BadHex 7))) ≡ Ends (stamp 1 1) (Done (present (Value.Char
+word_131 : word_run head_e Sort.Chars (map Elem (98 ∷ 52 ∷ 233 ∷ 61 ∷ [])) (Halted (Stop (bad_hex 7))) ≡ Ends (stamp 1 1) (Done (present (Value.Char
     98)))
 word_131 = refl
 
@@ -395,17 +395,17 @@ word_136 = refl
 
 -- hexDecode
 word_137 : word_run hex_decode_word Sort.Bytes (map Elem (codes "aa157C4g0")) Ended ≡ Then (stamp 2 2) (Out (Elem 170)) (Then (stamp 4 4) (Out (Elem
-    21)) (Then (stamp 6 6) (Out (Elem 124)) (Ends (stamp 8 8) (Halts (Stop (BadHex 6))))))
+    21)) (Then (stamp 6 6) (Out (Elem 124)) (Ends (stamp 8 8) (Halts (Stop (bad_hex 6))))))
 word_137 = refl
 
 -- hexDecode
-word_138 : word_run hex_decode_word Sort.Bytes (map Elem (codes "6E")) (Halted (Stop (BadHex 7))) ≡ Then (stamp 2 2) (Out (Elem 110)) (Ends (stamp 3
-    2) (Halts (Stop (BadHex 7))))
+word_138 : word_run hex_decode_word Sort.Bytes (map Elem (codes "6E")) (Halted (Stop (bad_hex 7))) ≡ Then (stamp 2 2) (Out (Elem 110)) (Ends (stamp 3
+    2) (Halts (Stop (bad_hex 7))))
 word_138 = refl
 
 -- hexDecode
 word_139 : word_run hex_decode_word Sort.Bytes (map Elem (codes "E1a79A576")) Ended ≡ Then (stamp 2 2) (Out (Elem 225)) (Then (stamp 4 4) (Out (Elem
-    167)) (Then (stamp 6 6) (Out (Elem 154)) (Then (stamp 8 8) (Out (Elem 87)) (Ends (stamp 10 9) (Halts (Stop (BadHex 8)))))))
+    167)) (Then (stamp 6 6) (Out (Elem 154)) (Then (stamp 8 8) (Out (Elem 87)) (Ends (stamp 10 9) (Halts (Stop (bad_hex 8)))))))
 word_139 = refl
 
 -- hexEncode

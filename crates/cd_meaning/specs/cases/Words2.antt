@@ -1,7 +1,7 @@
 -- Cases of tools/cases/words.jsonl, written by tools/cases.py: the number in a name is the line of the case.
 use Rattle.std.specs.Prelude.{[], ◌∷◌, ◌≡◌, refl, codes, map, true, false}
 use lib.Utf8.{encode}
-use Rattle.cd_meaning.specs.Stream.{Sort, Elem, Piece, Value, absent, present, Reading, More, Stop, BadText, BadHex, Ended, Halted, Done, Halts, Out, Do, Open, Put, Close}
+use Rattle.cd_meaning.specs.Stream.{Sort, Elem, Piece, Value, absent, present, Reading, More, Stop, bad_text, bad_hex, Ended, Halted, Done, Halts, Out, Do, Open, Put, Close}
 use Rattle.cd_meaning.specs.Run.{stamp, Then, Ends}
 use Rattle.cd_meaning.specs.Classes.{digit, lower, is_scalar, empty, ends, xor, add, rot13, prefix, suffix, reversed, not_test}
 use Rattle.cd_meaning.specs.Meaning.{pass_e, take_e, take_while_e, map_e, repeat_e, peek_e, length_e, sum_e, null_e, sink_null, pass_word, take_word, take_while_word, repeat_word, map_word, peek_word, length_word, null_word, lines_word, split_word, unlines_word, utf8_word, utf8_lenient_word, utf8_encode_word, sink_file_word, stdout_word}
@@ -12,8 +12,8 @@ word_178 : word_run length_word Sort.Block [] Ended ≡ Ends (stamp 1 0) (Done (
 word_178 = refl
 
 -- length
-word_179 : word_run length_word Sort.Block (map Piece ((codes "A") ∷ (233 ∷ 172 ∷ []) ∷ [] ∷ (65 ∷ 10 ∷ 32 ∷ []) ∷ [])) (Halted (Stop (BadHex 7))) ≡
-    Ends (stamp 5 4) (Halts (Stop (BadHex 7)))
+word_179 : word_run length_word Sort.Block (map Piece ((codes "A") ∷ (233 ∷ 172 ∷ []) ∷ [] ∷ (65 ∷ 10 ∷ 32 ∷ []) ∷ [])) (Halted (Stop (bad_hex 7))) ≡
+    Ends (stamp 5 4) (Halts (Stop (bad_hex 7)))
 word_179 = refl
 
 -- lengthE
@@ -25,7 +25,7 @@ word_186 : word_run length_e Sort.Chars (map Elem (233 ∷ 98 ∷ 97 ∷ 233 ∷
 word_186 = refl
 
 -- lengthE
-word_187 : word_run length_e Sort.Chars (map Elem (128512 ∷ [])) (Halted (Stop (BadHex 7))) ≡ Ends (stamp 2 1) (Halts (Stop (BadHex 7)))
+word_187 : word_run length_e Sort.Chars (map Elem (128512 ∷ [])) (Halted (Stop (bad_hex 7))) ≡ Ends (stamp 2 1) (Halts (Stop (bad_hex 7)))
 word_187 = refl
 
 -- lines 4
@@ -105,10 +105,10 @@ word_212 : word_run (map_e rot13) Sort.Chars (map Elem (codes "A")) Ended ≡ Th
 word_212 = refl
 
 -- mapE rot13
-word_213 : word_run (map_e rot13) Sort.Chars (map Elem (61 ∷ 61 ∷ 49 ∷ 65 ∷ 13 ∷ 8364 ∷ 65 ∷ 32 ∷ 13 ∷ [])) (Halted (Stop (BadHex 7))) ≡ Then (stamp 1
+word_213 : word_run (map_e rot13) Sort.Chars (map Elem (61 ∷ 61 ∷ 49 ∷ 65 ∷ 13 ∷ 8364 ∷ 65 ∷ 32 ∷ 13 ∷ [])) (Halted (Stop (bad_hex 7))) ≡ Then (stamp 1
     1) (Out (Elem 61)) (Then (stamp 2 2) (Out (Elem 61)) (Then (stamp 3 3) (Out (Elem 49)) (Then (stamp 4 4) (Out (Elem 78)) (Then (stamp 5 5) (Out
     (Elem 13)) (Then (stamp 6 6) (Out (Elem 8364)) (Then (stamp 7 7) (Out (Elem 78)) (Then (stamp 8 8) (Out (Elem 32)) (Then (stamp 9 9) (Out (Elem
-    13)) (Ends (stamp 10 9) (Halts (Stop (BadHex 7))))))))))))
+    13)) (Ends (stamp 10 9) (Halts (Stop (bad_hex 7))))))))))))
 word_213 = refl
 
 -- null
@@ -120,12 +120,12 @@ word_218 : word_run null_word Sort.Block [] Ended ≡ Ends (stamp 1 0) (Done (Va
 word_218 = refl
 
 -- null
-word_219 : word_run null_word Sort.Text (map Piece ((codes "a") ∷ (71 ∷ 8364 ∷ 97 ∷ []) ∷ [] ∷ (32 ∷ 48 ∷ []) ∷ [])) (Halted (Stop (BadHex 7))) ≡ Ends
+word_219 : word_run null_word Sort.Text (map Piece ((codes "a") ∷ (71 ∷ 8364 ∷ 97 ∷ []) ∷ [] ∷ (32 ∷ 48 ∷ []) ∷ [])) (Halted (Stop (bad_hex 7))) ≡ Ends
     (stamp 1 0) (Done (Value.Bool false))
 word_219 = refl
 
 -- nullE
-word_225 : word_run null_e Sort.Chars (map Elem (48 ∷ 8364 ∷ 10 ∷ [])) (Halted (Stop (BadHex 7))) ≡ Ends (stamp 1 0) (Done (Value.Bool false))
+word_225 : word_run null_e Sort.Chars (map Elem (48 ∷ 8364 ∷ 10 ∷ [])) (Halted (Stop (bad_hex 7))) ≡ Ends (stamp 1 0) (Done (Value.Bool false))
 word_225 = refl
 
 -- nullE
@@ -154,7 +154,7 @@ word_235 : word_run pass_word Sort.Block (map Piece ((0 ∷ 233 ∷ 98 ∷ []) �
 word_235 = refl
 
 -- passE
-word_241 : word_run pass_e Sort.Bytes [] (Halted (Stop (BadHex 7))) ≡ Ends (stamp 1 0) (Halts (Stop (BadHex 7)))
+word_241 : word_run pass_e Sort.Bytes [] (Halted (Stop (bad_hex 7))) ≡ Ends (stamp 1 0) (Halts (Stop (bad_hex 7)))
 word_241 = refl
 
 -- passE
@@ -163,7 +163,7 @@ word_242 : word_run pass_e Sort.Bytes (map Elem (98 ∷ 0 ∷ 255 ∷ [])) (Halt
 word_242 = refl
 
 -- passE
-word_243 : word_run pass_e Sort.Bytes [] (Halted (Stop (BadHex 7))) ≡ Ends (stamp 1 0) (Halts (Stop (BadHex 7)))
+word_243 : word_run pass_e Sort.Bytes [] (Halted (Stop (bad_hex 7))) ≡ Ends (stamp 1 0) (Halts (Stop (bad_hex 7)))
 word_243 = refl
 
 -- peek
@@ -206,9 +206,9 @@ word_265 : word_run (repeat_word 2) Sort.Block (map Piece ((233 ∷ 0 ∷ []) �
 word_265 = refl
 
 -- repeat 3
-word_266 : word_run (repeat_word 3) Sort.Block (map Piece ((172 ∷ 13 ∷ 52 ∷ []) ∷ [])) (Halted (Stop (BadHex 7))) ≡ Then (stamp 1 1) (Out (Piece (172
+word_266 : word_run (repeat_word 3) Sort.Block (map Piece ((172 ∷ 13 ∷ 52 ∷ []) ∷ [])) (Halted (Stop (bad_hex 7))) ≡ Then (stamp 1 1) (Out (Piece (172
     ∷ 13 ∷ 52 ∷ []))) (Then (stamp 1 1) (Out (Piece (172 ∷ 13 ∷ 52 ∷ []))) (Then (stamp 1 1) (Out (Piece (172 ∷ 13 ∷ 52 ∷ []))) (Ends (stamp 2 1)
-    (Halts (Stop (BadHex 7))))))
+    (Halts (Stop (bad_hex 7))))))
 word_266 = refl
 
 -- repeat 1
@@ -257,7 +257,7 @@ word_284 : word_run sink_file_word Sort.Bytes (map Elem (codes "00G")) Ended ≡
 word_284 = refl
 
 -- sinkNull
-word_289 : word_run sink_null Sort.Chars [] (Halted (Stop (BadHex 7))) ≡ Ends (stamp 1 0) (Halts (Stop (BadHex 7)))
+word_289 : word_run sink_null Sort.Chars [] (Halted (Stop (bad_hex 7))) ≡ Ends (stamp 1 0) (Halts (Stop (bad_hex 7)))
 word_289 = refl
 
 -- sinkNull
@@ -275,7 +275,7 @@ word_297 : word_run (split_word 97 5) Sort.Bytes (map Elem (13 ∷ 49 ∷ 172 �
 word_297 = refl
 
 -- split "\n" 2
-word_298 : word_run (split_word 10 2) Sort.Bytes (map Elem (0 ∷ [])) (Halted (Stop (BadHex 7))) ≡ Ends (stamp 2 1) (Halts (Stop (BadHex 7)))
+word_298 : word_run (split_word 10 2) Sort.Bytes (map Elem (0 ∷ [])) (Halted (Stop (bad_hex 7))) ≡ Ends (stamp 2 1) (Halts (Stop (bad_hex 7)))
 word_298 = refl
 
 -- split "-" 5
@@ -312,7 +312,7 @@ word_315 : word_run sum_e Sort.Bytes (map Elem (codes "A")) (Halted (More (Readi
 word_315 = refl
 
 -- take 2
-word_321 : word_run (take_word 2) Sort.Text (map Piece ((32 ∷ 97 ∷ 10 ∷ []) ∷ (codes "A") ∷ (codes "G") ∷ [] ∷ [] ∷ [])) (Halted (Stop (BadHex 7))) ≡
+word_321 : word_run (take_word 2) Sort.Text (map Piece ((32 ∷ 97 ∷ 10 ∷ []) ∷ (codes "A") ∷ (codes "G") ∷ [] ∷ [] ∷ [])) (Halted (Stop (bad_hex 7))) ≡
     Then (stamp 1 1) (Out (Piece (32 ∷ 97 ∷ 10 ∷ []))) (Then (stamp 2 2) (Out (Piece (codes "A"))) (Ends (stamp 2 2) (Done Value.Unit)))
 word_321 = refl
 
@@ -352,7 +352,7 @@ word_338 = refl
 
 -- takeWhile ends "\""
 word_339 : word_run (take_while_word (ends (34 ∷ []))) Sort.Text (map Piece ((61 ∷ 71 ∷ 128512 ∷ []) ∷ (233 ∷ []) ∷ (98 ∷ 233 ∷ 128512 ∷ []) ∷ (codes
-    "0") ∷ [] ∷ [])) (Halted (Stop (BadHex 7))) ≡ Ends (stamp 1 0) (Done Value.Unit)
+    "0") ∷ [] ∷ [])) (Halted (Stop (bad_hex 7))) ≡ Ends (stamp 1 0) (Done Value.Unit)
 word_339 = refl
 
 -- takeWhileE is ","
@@ -368,7 +368,7 @@ word_347 : word_run (take_while_e (is_scalar 44)) Sort.Chars (map Elem (codes "A
 word_347 = refl
 
 -- takeWhileE digit
-word_350 : word_run (take_while_e digit) Sort.Bytes (map Elem (226 ∷ 49 ∷ 13 ∷ 172 ∷ 71 ∷ 52 ∷ 49 ∷ 61 ∷ 172 ∷ [])) (Halted (Stop (BadHex 7))) ≡ Ends
+word_350 : word_run (take_while_e digit) Sort.Bytes (map Elem (226 ∷ 49 ∷ 13 ∷ 172 ∷ 71 ∷ 52 ∷ 49 ∷ 61 ∷ 172 ∷ [])) (Halted (Stop (bad_hex 7))) ≡ Ends
     (stamp 1 0) (Done Value.Unit)
 word_350 = refl
 
@@ -384,13 +384,13 @@ word_354 : word_run unlines_word Sort.Block (map Piece ([] ∷ [])) (Halted (Mor
 word_354 = refl
 
 -- unlines
-word_355 : word_run unlines_word Sort.Block (map Piece ((172 ∷ 10 ∷ []) ∷ [])) (Halted (Stop (BadHex 7))) ≡ Then (stamp 1 1) (Out (Elem 172)) (Then
-    (stamp 1 1) (Out (Elem 10)) (Then (stamp 1 1) (Out (Elem 10)) (Ends (stamp 2 1) (Halts (Stop (BadHex 7))))))
+word_355 : word_run unlines_word Sort.Block (map Piece ((172 ∷ 10 ∷ []) ∷ [])) (Halted (Stop (bad_hex 7))) ≡ Then (stamp 1 1) (Out (Elem 172)) (Then
+    (stamp 1 1) (Out (Elem 10)) (Then (stamp 1 1) (Out (Elem 10)) (Ends (stamp 2 1) (Halts (Stop (bad_hex 7))))))
 word_355 = refl
 
 -- utf8
 word_361 : word_run utf8_word Sort.Bytes (map Elem (97 ∷ 195 ∷ 169 ∷ 195 ∷ 169 ∷ 255 ∷ [])) Ended ≡ Then (stamp 1 1) (Out (Elem 97)) (Then (stamp 3 3)
-    (Out (Elem 233)) (Then (stamp 5 5) (Out (Elem 233)) (Ends (stamp 6 6) (Halts (Stop (BadText 5))))))
+    (Out (Elem 233)) (Then (stamp 5 5) (Out (Elem 233)) (Ends (stamp 6 6) (Halts (Stop (bad_text 5))))))
 word_361 = refl
 
 -- utf8
@@ -406,12 +406,12 @@ word_363 = refl
 
 -- utf8
 word_365 : word_run utf8_word Sort.Bytes (map Elem (130 ∷ 49 ∷ 10 ∷ 71 ∷ 49 ∷ 226 ∷ 10 ∷ [])) (Halted (More (Reading 1))) ≡ Ends (stamp 1 1) (Halts
-    (Stop (BadText 0)))
+    (Stop (bad_text 0)))
 word_365 = refl
 
 -- utf8
 word_366 : word_run utf8_word Sort.Bytes (map Elem (240 ∷ 159 ∷ 152 ∷ 128 ∷ 226 ∷ 130 ∷ 255 ∷ [])) Ended ≡ Then (stamp 4 4) (Out (Elem 128512)) (Ends
-    (stamp 7 7) (Halts (Stop (BadText 4))))
+    (stamp 7 7) (Halts (Stop (bad_text 4))))
 word_366 = refl
 
 -- utf8Encode
