@@ -22,7 +22,7 @@ SPECS = "Rattle.cd_meaning.specs"
 WIDTH = 150
 LEAST = 3
 
-# ---- the constructors of a tree and the definitions that they stand for
+# ---- the constructors of a tree and the short names of Rows.Short
 
 WORDS = {
     "PassE": "pass_e", "TakeE": "take_e", "TakeWhileE": "take_while_e", "FilterE": "filter_e",
@@ -61,6 +61,7 @@ STATEMENTS = {
     "Run": "run_statement", "Seal": "let_statement", "Feed": "feed_statement", "CloseSeal": "close_statement",
     "Hold": "hold_statement", "Release": "release_statement",
 }
+FAULTS = {"BadText": "bad_text", "BadHex": "bad_hex", "BadBase64": "bad_base64"}
 MARKS = {"End": "AtEnd", "More": "MayGoOn", "Bad": "Broken", "Long": "TooLong"}
 
 
@@ -124,18 +125,13 @@ def word(tree):
         written = [scalar(arguments[0]), str(arguments[1])]
     elif name in ("Blocks", "Texts"):
         written = [listed([literal(a) for a in arguments[0]])]
-    elif name in ("SourceFile", "SinkFile"):
-        written = []
     else:
         written = [str(a) if isinstance(a, int) else literal(a) for a in arguments]
     return applied(WORDS[name], *written)
 
 
-def nested(name, parts):
-    """Parts under an operator of two: `a op (b op c)`."""
-    if len(parts) == 1:
-        return parts[0]
-    return applied(name, parts[0], nested(name, parts[1:]))
+def parts(trees):
+    return listed([unwrapped(pipe(tree)) for tree in trees])
 
 
 def pipe(tree):
@@ -143,13 +139,13 @@ def pipe(tree):
     if name == "Word":
         return word(arguments[0])
     if name == "Chain":
-        return nested(OPERATORS[arguments[0]], [pipe(p) for p in arguments[1]])
+        return applied(OPERATORS[arguments[0]], parts(arguments[1]))
     if name == "Sequence":
-        return nested(FORMS[name], [pipe(p) for p in arguments[0]])
+        return applied(FORMS[name], parts(arguments[0]))
     if name == "ZipSource":
         return applied(FORMS[name], literal(arguments[2]), pipe(arguments[0]), pipe(arguments[1]))
     if name == "Mark":
-        return applied(FORMS[name], pipe(arguments[1]))
+        return applied(FORMS[name], literal(arguments[0]), pipe(arguments[1]))
     return applied(FORMS[name], *[str(a) if isinstance(a, int) else pipe(a) for a in arguments])
 
 
@@ -158,6 +154,8 @@ def statement(tree):
     written = []
     if name in ("Seal", "Feed", "CloseSeal", "Hold", "Release"):
         written = [literal(arguments[0])]
+    if name == "Hold":
+        written.append(literal(arguments[1]))
     if name in ("Run", "Seal", "Feed", "CloseSeal"):
         written.append(pipe(arguments[-1]))
     return applied(STATEMENTS[name], *written)
@@ -200,6 +198,7 @@ def result(value):
 def halt(tree):
     name, arguments = tree
     kind, number = arguments
+    kind = FAULTS.get(kind, kind)
     return applied({"more": "More", "wait": "More", "stop": "Stop"}[name], applied(kind, str(number)))
 
 
@@ -269,36 +268,35 @@ def word_lines(line, case):
     name = f"word_{line}"
     left = f"word_run {word(case['word'])} Sort.{case['sort']} {items(case['input'])} {end(case['end'])}"
     opened = ["unfolding encode"] if "utf8_encode_word" in left else []
-    return [f"-- {case['text']}", *wrapped(f"{name} : {left} ≡ {unwrapped(run(case))}"), *opened, f"{name} = refl", ""]
+    return [f"-- {case['text']}", *wrapped(f"{name} : {left} ≡ {unwrapped(run(case))}"), *opened, f"{name} = runs_so _ _ _ _", ""]
 
 
 def script_lines(line, case):
     name = f"script_{line}"
     lines = ["-- " + text for text in case["script"].splitlines()]
-    lines += [f"abbrev {name} : List Statement"]
+    lines += [f"abbrev {name} : List Sentence"]
     lines += wrapped(f"{name} = {unwrapped(listed([unwrapped(statement(s)) for s in case['tree']]))}")
     lines.append("")
     for number, one in enumerate(case["runs"], 1):
-        left = f"(script_run value_text {seen(one['seen'])} {name})"
+        left = f"{name} {seen(one['seen'])}"
         for what, right in (("effects", effects(one["effects"])), ("ending", ending(one["end"]))):
             lemma = f"{name}_{what}_{number}"
-            lines += [*wrapped(f"{lemma} : {what} {left} ≡ {unwrapped(right)}"), "unfolding digits encode", f"{lemma} = refl", ""]
+            lines += [*wrapped(f"{lemma} : {what}_of {left} ≡ {unwrapped(right)}"), "unfolding digits encode", f"{lemma} = {what}_so _ _", ""]
     return lines
 
 
 IMPORTS = [
-    ("Rattle.std.specs.Prelude", "List [] ◌∷◌ ◌≡◌ refl codes map true false"),
+    ("Rattle.std.specs.Prelude", "List [] ◌∷◌ ◌≡◌ codes map true false"),
     ("Rattle.std.specs.Fmt", "digits"),
     ("lib.Utf8", "encode"),
     (f"{SPECS}.Stream", "Sort Elem Piece Value absent present NoValues Another Input Reading More Stop bad_text bad_hex "
      "bad_base64 ReadBad Long Ended Halted Done Halts Out Do Open Put Close"),
-    (f"{SPECS}.Run", "stamp Then Ends effects ending"),
+    (f"{SPECS}.Run", "stamp Then Ends"),
     (f"{SPECS}.Words", "AtEnd MayGoOn Broken TooLong"),
-    (f"{SPECS}.Classes", " ".join([*CLASSES.values(), *TESTS.values(), *MAPS.values(), "not_class", "not_test"])),
-    (f"{SPECS}.ValueText", "value_text"),
-    (f"{SPECS}.Meaning", " ".join([*WORDS.values(), *OPERATORS.values(), *FORMS.values(), *STATEMENTS.values(), "Statement",
-     "script_run"])),
-    (f"{SPECS}.cases.Known", "nothing_seen known word_run"),
+    (f"{SPECS}.Rows.Trees", "Sentence"),
+    (f"{SPECS}.Rows.Short", " ".join([*WORDS.values(), *CLASSES.values(), *TESTS.values(), *MAPS.values(), "not_class", "not_test",
+     *OPERATORS.values(), *FORMS.values(), *STATEMENTS.values()])),
+    (f"{SPECS}.cases.Known", "nothing_seen known word_run runs_so effects_of effects_so ending_of ending_so"),
 ]
 ALL_NAMES = {name.strip("◌") for _, names in IMPORTS for name in names.split()}
 
@@ -380,7 +378,7 @@ def main():
         groups = {line: write(line, case) for line, case in read_cases(f"{kind.lower()}.jsonl").items()}
         chosen = asked if asked is not None else list(groups) if options.all else selection(groups)
         names += write_modules(options.out, kind, [groups[line] for line in chosen], options.per)
-        lemmas = sum(text.endswith(" = refl") for line in chosen for text in groups[line])
+        lemmas = sum("_so _" in text for line in chosen for text in groups[line])
         print(f"{kind.lower()}: {len(chosen)} of {len(groups)} cases, {lemmas} lemmas")
     index = ["-- Modules of cases, written by tools/cases.py.", *[f"pub mod {name}" for name in sorted(["Known", *names])]]
     Path(f"{options.out}.antt").write_text("\n".join(index) + "\n", encoding="utf-8")

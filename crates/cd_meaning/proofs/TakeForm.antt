@@ -1,15 +1,17 @@
 -- A file's first bytes to standard output.
-use Rattle.std.proofs.Common.{◌≤◌, ◌<◌, ◌≡◌, ℕ, zero, suc, List, [], ◌∷◌, ◌++◌, length, take, map, refl, ap, sym, ◌∙◌, Bool, true, false, nat_le, if◌then◌else◌, arith}
-use Rattle.std.proofs.lemmas.Bool.{le-leb, lt-leb}
-use Rattle.std.proofs.lemmas.List.{append-nil, length-append, take_all, take-append-le}
+use Rattle.std.proofs.Common.{◌≤◌, ◌<◌, ◌⊎◌, inl, inr, ◌≡◌, ℕ, zero, suc, List, [], ◌∷◌, ◌++◌, length, take, map, refl, ap, sym, ◌∙◌, Bool, true, false, nat_le, if◌then◌else◌, arith}
+use Rattle.std.proofs.lemmas.Bool.{cases_lt, le-leb, lt-leb}
+use Rattle.std.proofs.lemmas.List.{append-nil, length-append, take_all, length-take, take-take, take-append-le}
 use Rattle.cd_meaning.specs.Stream.{Item, Elem, Value, Ended, Done, Act, Do, Effect, Open, Put, Close, Halts, More, Reading}
 use Rattle.cd_meaning.specs.Run.{Stamp, start, Run, Then, Ends, Component, outs, end_of, outs_at, effects, ending, acts_at}
 use Rattle.cd_meaning.specs.Words.{passes, unit_of, Mark, AtEnd, MayGoOn, Broken, TooLong, Told, Seen}
 use Rattle.cd_meaning.specs.ElementWords.{taken}
 use Rattle.cd_meaning.specs.Sources.{source_file, file_end, puts, stdout}
 use Rattle.cd_meaning.specs.Fusion.{fuse, fuse_at, fed}
-use Rattle.cd_meaning.specs.Meaning.{goes_on, value_puts}
-use Rattle.cd_meaning.specs.TakeForm.{form_run, close_of, front_effects, front_ending, puts_of, whole_file, bytes_put}
+use Rattle.cd_meaning.specs.Places.{Reads, WritesOutput, Place, sent_to, told_whole, whole}
+use Rattle.cd_meaning.specs.Pipes.{nodes}
+use Rattle.cd_meaning.specs.Scripts.{goes_on, value_puts, script_run, script_places, statement_places, standard_output, whole_files}
+use Rattle.cd_meaning.specs.TakeForm.{take_script, close_of, ending_of, front_effects, front_ending}
 use Rattle.cd_meaning.specs.Scan.{scan}
 use Rattle.cd_meaning.proofs.Known.{fuse_assoc}
 use Rattle.cd_meaning.proofs.Through.{through, fuse_scan}
@@ -66,62 +68,97 @@ form_pipe_is (suc n) told = pipe_is (suc n) told ∙ ap (λ r. Then start (Do (O
 
 -- ---- the statement
 
-abbrev last_line : (Value → List ℕ) → Stamp → Value → Run
-last_line text s v = acts_at start (value_puts text v) (Ends start (Done Value.Unit))
+abbrev last_line : Stamp → Value → Run
+last_line s v = acts_at start (value_puts v) (Ends start (Done Value.Unit))
 
-pub form_is : (text : Value → List ℕ) (seen : Seen) (n : ℕ) → form_run text seen n ≡ goes_on (asked_run (seen 1) n) (last_line text)
-form_is text seen n = ap (λ r. goes_on r (last_line text)) (form_pipe_is n (seen 1))
+pub form_is : (name : List ℕ) (seen : Seen) (n : ℕ) → script_run (take_script name n) seen ≡ goes_on (asked_run (seen 1) n) last_line
+form_is name seen n = simp nodes (ap (λ r. goes_on r last_line) (form_pipe_is n (seen 1)))
 
-module _ (text : Value → List ℕ) where
-  all_effects : (bytes : List ℕ) (mark : Mark) (n : ℕ) → effects (goes_on (front_run bytes mark n) (last_line text)) ≡ map (Put 2) (take n bytes) ++ (if nat_le n (length bytes) then [] else close_of mark)
-  all_effects bytes mark zero = (rw (le-leb zero (length bytes) (omega arith)))
-  all_effects [] AtEnd (suc n) = rw (lt-leb (suc n) zero (omega arith))
-  all_effects [] MayGoOn (suc n) = rw (lt-leb (suc n) zero (omega arith))
-  all_effects [] Broken (suc n) = rw (lt-leb (suc n) zero (omega arith))
-  all_effects [] TooLong (suc n) = rw (lt-leb (suc n) zero (omega arith))
-  all_effects (b ∷ bytes) mark (suc n) = rw (nat_le_suc n (length bytes), all_effects bytes mark n)
+all_effects : (bytes : List ℕ) (mark : Mark) (n : ℕ) → effects (goes_on (front_run bytes mark n) last_line) ≡ map (Put 2) (take n bytes) ++ (if nat_le n (length bytes) then [] else close_of mark)
+all_effects bytes mark zero = (rw (le-leb zero (length bytes) (omega arith)))
+all_effects [] AtEnd (suc n) = rw (lt-leb (suc n) zero (omega arith))
+all_effects [] MayGoOn (suc n) = rw (lt-leb (suc n) zero (omega arith))
+all_effects [] Broken (suc n) = rw (lt-leb (suc n) zero (omega arith))
+all_effects [] TooLong (suc n) = rw (lt-leb (suc n) zero (omega arith))
+all_effects (b ∷ bytes) mark (suc n) = rw (nat_le_suc n (length bytes), all_effects bytes mark n)
 
-  its_ending : (bytes : List ℕ) (mark : Mark) (n : ℕ) → ending (goes_on (front_run bytes mark n) (last_line text)) ≡ front_ending bytes mark n
-  its_ending bytes mark zero = (rw (le-leb zero (length bytes) (omega arith)))
-  its_ending [] AtEnd (suc n) = rw (lt-leb (suc n) zero (omega arith))
-  its_ending [] MayGoOn (suc n) = rw (lt-leb (suc n) zero (omega arith))
-  its_ending [] Broken (suc n) = rw (lt-leb (suc n) zero (omega arith))
-  its_ending [] TooLong (suc n) = rw (lt-leb (suc n) zero (omega arith))
-  its_ending (b ∷ bytes) mark (suc n) = rw (nat_le_suc n (length bytes)) (its_ending bytes mark n)
+its_ending : (bytes : List ℕ) (mark : Mark) (n : ℕ) → ending (goes_on (front_run bytes mark n) last_line) ≡ front_ending bytes mark n
+its_ending bytes mark zero = (rw (le-leb zero (length bytes) (omega arith)))
+its_ending [] AtEnd (suc n) = rw (lt-leb (suc n) zero (omega arith))
+its_ending [] MayGoOn (suc n) = rw (lt-leb (suc n) zero (omega arith))
+its_ending [] Broken (suc n) = rw (lt-leb (suc n) zero (omega arith))
+its_ending [] TooLong (suc n) = rw (lt-leb (suc n) zero (omega arith))
+its_ending (b ∷ bytes) mark (suc n) = rw (nat_le_suc n (length bytes)) (its_ending bytes mark n)
 
 -- what the form does, and how it ends
-pub form_effects : (text : Value → List ℕ) (seen : Seen) (n : ℕ) → effects (form_run text seen n) ≡ front_effects (seen 1).bytes (seen 1).mark n
-form_effects text seen zero = ap effects (form_is text seen zero)
-form_effects text seen (suc n) = ap effects (form_is text seen (suc n)) ∙ ap (λ l. Open 1 ∷ l) (all_effects text (seen 1).bytes (seen 1).mark (suc n))
+pub form_effects : (name : List ℕ) (seen : Seen) (n : ℕ) → effects (script_run (take_script name n) seen) ≡ front_effects (seen 1).bytes (seen 1).mark n
+form_effects name seen zero = ap effects (form_is name seen zero)
+form_effects name seen (suc n) = ap effects (form_is name seen (suc n)) ∙ ap (λ l. Open 1 ∷ l) (all_effects (seen 1).bytes (seen 1).mark (suc n))
 
-pub form_ending : (text : Value → List ℕ) (seen : Seen) (n : ℕ) → ending (form_run text seen n) ≡ front_ending (seen 1).bytes (seen 1).mark n
-form_ending text seen zero = ap ending (form_is text seen zero) ∙ its_ending text (seen 1).bytes (seen 1).mark zero
-form_ending text seen (suc n) = ap ending (form_is text seen (suc n)) ∙ its_ending text (seen 1).bytes (seen 1).mark (suc n)
+pub form_ending : (name : List ℕ) (seen : Seen) (n : ℕ) → ending (script_run (take_script name n) seen) ≡ front_ending (seen 1).bytes (seen 1).mark n
+form_ending name seen zero = ap ending (form_is name seen zero) ∙ its_ending (seen 1).bytes (seen 1).mark zero
+form_ending name seen (suc n) = ap ending (form_is name seen (suc n)) ∙ its_ending (seen 1).bytes (seen 1).mark (suc n)
 
 -- ---- the bytes put
 
-puts_first : (bytes : List ℕ) (more : List Effect) → puts_of 2 (map (Put 2) bytes ++ more) ≡ bytes ++ puts_of 2 more
-puts_first [] more = refl
-puts_first (b ∷ bytes) more = ap (λ l. b ∷ l) (puts_first bytes more)
+abbrev form_places : List ℕ → List Place
+form_places name = Reads name ∷ WritesOutput ∷ []
 
-no_puts : (mark : Mark) (b : Bool) → puts_of 2 (if b then [] else close_of mark) ≡ []
-no_puts mark true = refl
-no_puts AtEnd false = refl
-no_puts MayGoOn false = refl
-no_puts Broken false = refl
-no_puts TooLong false = refl
+pub form_places_are : (name : List ℕ) (n : ℕ) → script_places (take_script name n) ≡ form_places name
+form_places_are name n = simp (nodes, script_places, statement_places)
 
-front_puts : (bytes : List ℕ) (mark : Mark) (n : ℕ) → puts_of 2 (front_effects bytes mark n) ≡ take n bytes
-front_puts bytes mark zero = refl
-front_puts bytes mark (suc n) =
-    puts_first (take (suc n) bytes) _ ∙ ap (λ l. take (suc n) bytes ++ l) (no_puts mark (nat_le (suc n) (length bytes))) ∙ append-nil (take (suc n) bytes)
+puts_first : (name bytes : List ℕ) (more : List Effect) → sent_to (form_places name) 0 (map (Put 2) bytes ++ more) ≡ bytes ++ sent_to (form_places name) 0 more
+puts_first name [] more = refl
+puts_first name (b ∷ bytes) more = ap (λ l. b ∷ l) (puts_first name bytes more)
 
-pub form_puts : (text : Value → List ℕ) (seen : Seen) (n : ℕ) → puts_of 2 (effects (form_run text seen n)) ≡ take n (seen 1).bytes
-form_puts text seen n = ap (puts_of 2) (form_effects text seen n) ∙ front_puts (seen 1).bytes (seen 1).mark n
+no_puts : (name : List ℕ) (mark : Mark) (b : Bool) → sent_to (form_places name) 0 (if b then [] else close_of mark) ≡ []
+no_puts name mark true = refl
+no_puts name AtEnd false = refl
+no_puts name MayGoOn false = refl
+no_puts name Broken false = refl
+no_puts name TooLong false = refl
 
-pub bytes_put-is : (text : Value → List ℕ) (bytes : List ℕ) (n : ℕ) → bytes_put text bytes n ≡ take n bytes
-unfolding bytes_put
-bytes_put-is text bytes n = form_puts text (whole_file bytes) n
+front_puts : (name bytes : List ℕ) (mark : Mark) (n : ℕ) → sent_to (form_places name) 0 (front_effects bytes mark n) ≡ take n bytes
+front_puts name bytes mark zero = refl
+front_puts name bytes mark (suc n) =
+    puts_first name (take (suc n) bytes) _ ∙ ap (λ l. take (suc n) bytes ++ l) (no_puts name mark (nat_le (suc n) (length bytes))) ∙ append-nil (take (suc n) bytes)
+
+pub form_puts : (name : List ℕ) (seen : Seen) (n : ℕ) → standard_output (take_script name n) seen ≡ take n (seen 1).bytes
+unfolding standard_output
+form_puts name seen n =
+    ap (λ (places : List Place). sent_to places 0 (effects (script_run (take_script name n) seen))) (form_places_are name n)
+    ∙ ap (sent_to (form_places name) 0) (form_effects name seen n)
+    ∙ front_puts name (seen 1).bytes (seen 1).mark n
+
+-- ---- over whole files
+
+module _ (files : List ℕ → List ℕ) (input : List ℕ) (limit : ℕ) (name : List ℕ) (n : ℕ) (fits : n ≤ limit) where
+  abbrev whole_seen : Seen
+  whole_seen = whole_files files input limit (take_script name n)
+
+  seen_whole : whole_seen 1 ≡ told_whole limit (files name)
+  seen_whole = ap (λ (places : List Place). whole files input limit places 1) (form_places_are name n)
+
+  first_of_whole : (bytes : List ℕ) → take n (told_whole limit bytes).bytes ≡ take n bytes
+  first_of_whole bytes = by_length (cases_lt limit (length bytes)) where
+    by_length : (limit < length bytes) ⊎ (length bytes ≤ limit) → take n (told_whole limit bytes).bytes ≡ take n bytes
+    by_length (inl long) = rw (lt-leb (length bytes) limit long) (take-take n limit bytes fits)
+    by_length (inr short) = rw (le-leb (length bytes) limit short)
+
+  ends_whole : (bytes : List ℕ) → front_ending (told_whole limit bytes).bytes (told_whole limit bytes).mark n ≡ Done Value.Unit
+  ends_whole bytes = by_length (cases_lt limit (length bytes)) where
+    by_length : (limit < length bytes) ⊎ (length bytes ≤ limit) → front_ending (told_whole limit bytes).bytes (told_whole limit bytes).mark n ≡ Done Value.Unit
+    by_length (inl long) = rw (lt-leb (length bytes) limit long, le-leb n (length (take limit bytes)) (omega (arith, length-take limit bytes)))
+    by_length (inr short) = rw (le-leb (length bytes) limit short) (either (nat_le n (length bytes))) where
+      either : (b : Bool) → (if b then Done Value.Unit else ending_of AtEnd) ≡ Done Value.Unit
+      either true = refl
+      either false = refl
+
+  pub whole_puts : standard_output (take_script name n) whole_seen ≡ take n (files name)
+  whole_puts = form_puts name whole_seen n ∙ ap (λ (t : Told). take n t.bytes) seen_whole ∙ first_of_whole (files name)
+
+  pub whole_ends : ending (script_run (take_script name n) whole_seen) ≡ Done Value.Unit
+  whole_ends = form_ending name whole_seen n ∙ ap (λ (t : Told). front_ending t.bytes t.mark n) seen_whole ∙ ends_whole (files name)
 
 -- ---- what a run reads of it
 

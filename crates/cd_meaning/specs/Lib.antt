@@ -5,9 +5,12 @@ pub mod Fusion
 pub mod Laws
 pub mod Meaning
 pub mod PieceWords
+pub mod Pipes
+pub mod Places
 pub mod Rows
 pub mod Run
 pub mod Scan
+pub mod Scripts
 pub mod Seals
 pub mod Sorts
 pub mod Sources
@@ -16,6 +19,7 @@ pub mod Stream
 pub mod TakeForm
 pub mod Text
 pub mod ValueText
+pub mod WordMeanings
 pub mod Words
 pub mod Zips
 pub mod cases

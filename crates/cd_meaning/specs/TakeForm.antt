@@ -1,16 +1,23 @@
--- `run sourceFile "NAME" | takeE N | stdout;`: what it means over a seen file.
-use Rattle.std.specs.Prelude.{ℕ, zero, suc, ◌==◌, nat_le, if◌then◌else◌, List, [], ◌∷◌, ◌++◌, length, take, map}
+-- `run sourceFile "NAME" | takeE N | stdout;`: its tree, and what it means over a seen file.
+use Rattle.std.specs.Prelude.{ℕ, zero, suc, nat_le, if◌then◌else◌, List, [], ◌∷◌, ◌++◌, length, take, map}
+use Rattle.cd_elem.specs.declared.word.Word.{Word}
+use Rattle.cd_elem.specs.declared.word.ElemWord.{ElemWord}
+use Rattle.cd_elem.specs.declared.word.SourceWord.{SourceWord}
+use Rattle.cd_elem.specs.declared.word.SinkWord.{SinkWord}
+use Rattle.cd_elem.specs.declared.script.Join.{Join}
+use Rattle.cd_elem.specs.declared.script.Pipe.{Pipe}
+use Rattle.cd_elem.specs.declared.script.Pipe.TheVariants as pipe
+use Rattle.cd_elem.specs.declared.script.Stmt.{Stmt}
 use Rattle.cd_meaning.specs.Stream.{Value, More, Stop, Reading, ReadBad, Long, Ending, Done, Halts, Effect, Open, Put, Close}
-use Rattle.cd_meaning.specs.Run.{start, Run, Ends, effects}
-use Rattle.cd_meaning.specs.Words.{Mark, AtEnd, MayGoOn, Broken, TooLong, Seen}
-use Rattle.cd_meaning.specs.Meaning.{Meaning, piped, take_e, source_file_word, stdout_word, ran}
+use Rattle.cd_meaning.specs.Words.{Mark, AtEnd, MayGoOn, Broken, TooLong}
 
--- The file is site 1 and standard output site 2.
-abbrev pub form_meaning : ℕ → Meaning
-form_meaning n = piped source_file_word (piped (take_e n) stdout_word)
+abbrev take_words : List ℕ → ℕ → List Pipe
+take_words name n =
+    pipe.Word (Word.Source (SourceWord.SourceFile name)) ∷ pipe.Word (Word.Elem (ElemWord.TakeE n)) ∷ pipe.Word (Word.Sink SinkWord.Stdout) ∷ []
 
-abbrev pub form_run : (Value → List ℕ) → Seen → ℕ → Run
-form_run text seen n = ran text seen (form_meaning n) 1 (Ends start (Done Value.Unit))
+-- its statements; the file is site 1 and standard output site 2
+abbrev pub take_script : List ℕ → ℕ → List Stmt
+take_script name n = Stmt.Run (pipe.Chain Join.Plain (take_words name n)) ∷ []
 
 -- what is done where the end of the file is met
 abbrev pub close_of : Mark → List Effect
@@ -34,18 +41,3 @@ front_effects bytes mark (suc n) = Open 1 ∷ map (Put 2) (take (suc n) bytes) +
 -- it is done where no more was asked than there is
 abbrev pub front_ending : List ℕ → Mark → ℕ → Ending
 front_ending bytes mark n = if nat_le n (length bytes) then Done Value.Unit else ending_of mark
-
--- the bytes that a site puts
-abbrev pub puts_of : ℕ → List Effect → List ℕ
-puts_of site [] = []
-puts_of site (Open s ∷ es) = puts_of site es
-puts_of site (Put s b ∷ es) = if s == site then b ∷ puts_of site es else puts_of site es
-puts_of site (Close s ∷ es) = puts_of site es
-
--- each site has these bytes, and no more
-abbrev pub whole_file : List ℕ → Seen
-whole_file bytes s = record { bytes = bytes; mark = AtEnd }
-
--- what standard output gets of the whole file
-unfoldable pub bytes_put : (Value → List ℕ) → List ℕ → ℕ → List ℕ
-bytes_put text bytes n = puts_of 2 (effects (form_run text (whole_file bytes) n))

@@ -1,10 +1,11 @@
 -- How rows are written: inputs, and runs.
 use Rattle.std.specs.Prelude.{ℕ, ◌+◌, ◌==◌, if◌then◌else◌, List, [], ◌∷◌, map, Some, None}
-use Rattle.cd_meaning.specs.Stream.{Elem, Piece, Sort, Value, Input, Reading, Stopped, More, Stop, End, Ended, Halted, Ending, Done, Halts, Out, Do, Effect, Put}
+use Rattle.cd_meaning.specs.Stream.{Elem, Piece, Sort, Value, Input, Reading, Stopped, Flow, More, Stop, End, Ended, Halted, Ending, Done, Halts, Out, Do, Effect, Put}
 use Rattle.cd_meaning.specs.Run.{stamp, Run, Then, Ends, effects, ending}
-use Rattle.cd_meaning.specs.ValueText.{value_text}
 use Rattle.cd_meaning.specs.Words.{Mark, MayGoOn, Told, Seen}
-use Rattle.cd_meaning.specs.Meaning.{Meaning, Statement, script_run}
+use Rattle.cd_meaning.specs.Pipes.{nodes, pipe_meaning}
+use Rattle.cd_meaning.specs.Scripts.{script_run}
+use Rattle.cd_meaning.specs.Rows.Trees.{Tree, pipe_of, Sentence, statement_of}
 
 -- what was told of some sites; of the others nothing is known
 pub record AtSite : Type 0 where
@@ -23,21 +24,25 @@ abbrev pub waiting : End
 waiting = Halted (More Input)
 
 -- the run of a part on values of this sort, where its first site is 1
-abbrev pub on_bytes : Meaning → List ℕ → End → Run
-on_bytes m xs e = m.run (Some Sort.Bytes) 1 (seen_of []) (map Elem xs) e
+abbrev pub on_bytes : Tree → List ℕ → End → Run
+on_bytes t xs e = (pipe_meaning (pipe_of t)).run (Some Sort.Bytes) 1 (seen_of []) (map Elem xs) e
 
-abbrev pub on_chars : Meaning → List ℕ → End → Run
-on_chars m xs e = m.run (Some Sort.Chars) 1 (seen_of []) (map Elem xs) e
+abbrev pub on_chars : Tree → List ℕ → End → Run
+on_chars t xs e = (pipe_meaning (pipe_of t)).run (Some Sort.Chars) 1 (seen_of []) (map Elem xs) e
 
-abbrev pub on_blocks : Meaning → List (List ℕ) → End → Run
-on_blocks m xs e = m.run (Some Sort.Block) 1 (seen_of []) (map Piece xs) e
+abbrev pub on_blocks : Tree → List (List ℕ) → End → Run
+on_blocks t xs e = (pipe_meaning (pipe_of t)).run (Some Sort.Block) 1 (seen_of []) (map Piece xs) e
 
-abbrev pub on_texts : Meaning → List (List ℕ) → End → Run
-on_texts m xs e = m.run (Some Sort.Text) 1 (seen_of []) (map Piece xs) e
+abbrev pub on_texts : Tree → List (List ℕ) → End → Run
+on_texts t xs e = (pipe_meaning (pipe_of t)).run (Some Sort.Text) 1 (seen_of []) (map Piece xs) e
 
 -- on no input at all
-abbrev pub on_nothing : Meaning → Seen → Run
-on_nothing m seen = m.run None 1 seen [] Ended
+abbrev pub on_nothing : Tree → Seen → Run
+on_nothing t seen = (pipe_meaning (pipe_of t)).run None 1 seen [] Ended
+
+-- what a part gives where this comes to it
+abbrev pub gives : Tree → Flow → Flow
+gives t flow = (pipe_meaning (pipe_of t)).gives flow
 
 -- an element, or a piece, is given at (i, i)
 abbrev pub gives_elem : ℕ → ℕ → Run → Run
@@ -79,13 +84,16 @@ abbrev pub stops_at : ℕ → ℕ → Stopped → Run
 stops_at need net f = Ends (stamp need net) (Halts (Stop f))
 
 -- what a script does, and how it ends, where this was told of its sites
-abbrev pub does : List Statement → List AtSite → List Effect
-does statements told = effects (script_run value_text (seen_of told) statements)
+abbrev pub does : List Sentence → List AtSite → List Effect
+does statements told = effects (script_run (map statement_of statements) (seen_of told))
 
-abbrev pub ends_so : List Statement → List AtSite → Ending
-ends_so statements told = ending (script_run value_text (seen_of told) statements)
+abbrev pub ends_so : List Sentence → List AtSite → Ending
+ends_so statements told = ending (script_run (map statement_of statements) (seen_of told))
 
 -- the texts that a site puts
 abbrev pub puts_at : ℕ → List ℕ → List Effect → List Effect
 puts_at s [] es = es
 puts_at s (b ∷ bs) es = Put s b ∷ puts_at s bs es
+
+-- what evaluates a row
+pub ruleset rows = (nodes, on_bytes, on_chars, on_blocks, on_texts, on_nothing, gives, does, ends_so)
