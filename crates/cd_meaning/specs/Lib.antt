@@ -19,6 +19,7 @@ pub mod Stream
 pub mod TakeForm
 pub mod Text
 pub mod ValueText
+pub mod Values
 pub mod WordMeanings
 pub mod Words
 pub mod Zips

@@ -6,6 +6,8 @@ pub mod Flows
 pub mod Forms
 pub mod Given
 pub mod Pieces
+pub mod Places
+pub mod Results
 pub mod Scripts
 pub mod Short
 pub mod Sites

@@ -1,5 +1,5 @@
 -- Trees as rows write them: data that computes, the tree of the program that each stands for, and what it means.
-use Rattle.std.specs.Prelude.{◌≡◌, refl, ℕ, List, [], ◌∷◌, map, true, false}
+use Rattle.std.specs.Prelude.{◌≡◌, refl, ℕ, List, [], ◌∷◌, ◌++◌, map, true, false}
 use Rattle.std.proofs.Common.{◌∙◌, ap}
 use Rattle.cd_elem.specs.declared.word.Word.{Word}
 use Rattle.cd_elem.specs.declared.word.ElemWord.{ElemWord}
@@ -20,10 +20,11 @@ use Rattle.cd_elem.specs.declared.script.Join.{Join}
 use Rattle.cd_elem.specs.declared.script.Pipe.{Pipe}
 use Rattle.cd_elem.specs.declared.script.Pipe.TheVariants as pipe
 use Rattle.cd_elem.specs.declared.script.Stmt.{Stmt}
+use Rattle.cd_meaning.specs.Places.{Place, Marks}
 use Rattle.cd_meaning.specs.Meaning.{Meaning, sequence_form as sequence_meaning, exactly_form as exactly_meaning, exactly_e_form as exactly_e_meaning, line_e_form as line_e_meaning, mark_form as mark_meaning, tee_form as tee_meaning, zip_source_form as zip_source_meaning, zip_sink_form as zip_sink_meaning, zip_conduit_form as zip_conduit_meaning}
 use Rattle.cd_meaning.specs.WordMeanings.{word_meaning}
 use Rattle.cd_meaning.specs.Pipes.{pipe_meaning, joined, all_of, word_is, chain_is, sequence_is, exactly_is, exactly_e_is, line_e_is, mark_is, tee_is, zip_source_is, zip_sink_is, zip_conduit_is}
-use Rattle.cd_meaning.specs.Scripts.{Statement, statement_meaning, run_statement as run_meaning, let_statement as let_meaning, feed_statement as feed_meaning, close_statement as close_meaning}
+use Rattle.cd_meaning.specs.Scripts.{Statement, statement_meaning, statement_places, script_places, run_statement as run_meaning, let_statement as let_meaning, feed_statement as feed_meaning, close_statement as close_meaning}
 
 
 mutual
@@ -141,3 +142,28 @@ sentence_means (Releases name) = refl
 pub script_means : (ss : List Sentence) → map statement_meaning (map statement_of ss) ≡ map sentence_meaning ss
 script_means [] = refl
 script_means (s ∷ ss) = ap (λ m. m ∷ map statement_meaning (map statement_of ss)) (sentence_means s) ∙ ap (λ ms. sentence_meaning s ∷ ms) (script_means ss)
+
+-- its places
+abbrev pub sentence_places : Sentence → List Place
+sentence_places (Runs t) = (meaning_of t).places
+sentence_places (Lets name t) = (meaning_of t).places
+sentence_places (Feeds name t) = (meaning_of t).places
+sentence_places (Closes name t) = (meaning_of t).places
+sentence_places (Holds name file) = Marks file ∷ []
+sentence_places (Releases name) = []
+
+abbrev pub all_places : List Sentence → List Place
+all_places [] = []
+all_places (s ∷ ss) = sentence_places s ++ all_places ss
+
+places_mean : (s : Sentence) → statement_places (statement_of s) ≡ sentence_places s
+places_mean (Runs t) = ap (λ m. m.places) (means t)
+places_mean (Lets name t) = ap (λ m. m.places) (means t)
+places_mean (Feeds name t) = ap (λ m. m.places) (means t)
+places_mean (Closes name t) = ap (λ m. m.places) (means t)
+places_mean (Holds name file) = refl
+places_mean (Releases name) = refl
+
+pub all_places_mean : (ss : List Sentence) → script_places (map statement_of ss) ≡ all_places ss
+all_places_mean [] = refl
+all_places_mean (s ∷ ss) = ap (λ p. p ++ script_places (map statement_of ss)) (places_mean s) ∙ ap (λ p. sentence_places s ++ p) (all_places_mean ss)
