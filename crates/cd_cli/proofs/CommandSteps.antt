@@ -14,8 +14,8 @@ use Rattle.cd_world.specs.declared.world.WorldError.TheVariants.{Failed, NoMemor
 use Rattle.cd_world.specs.Files.{Files}
 use Rattle.cd_meaning.specs.Stream.{Value, Done}
 use Rattle.cd_meaning.specs.Words.{Mark, AtEnd}
-use Rattle.cd_meaning.specs.TakeForm.{front_ending, ending_of, whole_file}
-use Rattle.cd_meaning.proofs.TakeForm.{form_ending, form_puts, bytes_put-is}
+use Rattle.cd_meaning.specs.TakeForm.{front_ending, ending_of}
+use Rattle.cd_meaning.proofs.TakeForm.{form_ending, form_puts, whole_puts, whole_ends}
 use Rattle.cd_cli.specs.declared.cause.Cause.{Cause}
 use Rattle.cd_cli.specs.declared.cause.Cause.TheVariants.{Success, NotBuilt, OutsideFault, NoMemory as WithoutMemory}
 use Rattle.cd_world.specs.Causes.{Rose}
@@ -99,19 +99,19 @@ module _ (name : List ℕ) (count : ℕ) where
   runs_of result cause l l' takes on_success = record {
     shape = takes.shape;
     behind = takes.behind;
-    puts = λ text. form_puts text (seen_of takes.part) count ∙ takes.front;
+    puts = form_puts name (seen_of takes.part) count ∙ takes.front;
     whole = on_success _ takes.whole;
-    done = λ success text. form_ending text (seen_of takes.part) count ∙ front_done _ _ count (on_success _ takes.enough success);
+    done = λ success. form_ending name (seen_of takes.part) count ∙ front_done _ _ count (on_success _ takes.enough success);
     calm = on_success _ takes.calm;
   }
 
   -- what was put
-  pub puts_of_file : {T : Type 0} (result : Result T WorldError) (cause : Cause) (f f' : Files) (takes : Takes name count result f f') → ((P : Type 0) → OnOk result P → cause ≡ Success → P) → Puts (f.contents name) count cause takes.sent
+  pub puts_of_file : {T : Type 0} (result : Result T WorldError) (cause : Cause) (f f' : Files) (takes : Takes name count result f f') → ((P : Type 0) → OnOk result P → cause ≡ Success → P) → Puts f.contents name count cause takes.sent
   puts_of_file result cause f f' takes on_success = record {
     behind = takes.behind;
-    puts = λ text. bytes_put-is text (f.contents name) count ∙ takes.front;
+    puts = λ input limit fits. whole_puts f.contents input limit name count fits ∙ takes.front;
     whole = on_success _ takes.whole;
-    done = λ success text. form_ending text (whole_file (f.contents name)) count ∙ front_done (f.contents name) AtEnd count (inr refl);
+    done = λ success input limit fits. whole_ends f.contents input limit name count fits;
   }
 
 -- a refused run is no success, and was built

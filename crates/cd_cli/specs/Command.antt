@@ -1,13 +1,14 @@
 -- What the command does: it reads a script, and runs it where it is of the form.
-use Rattle.std.specs.Prelude.{◌≡◌, ◌≢◌, ◌⊎◌, ℕ, List, [], ◌∷◌, ◌++◌, codes}
+use Rattle.std.specs.Prelude.{◌≡◌, ◌≢◌, ◌≤◌, ◌⊎◌, ℕ, List, [], ◌∷◌, ◌++◌, codes}
 use Rattle.cd_world.specs.declared.event.Event.{Event}
 use Rattle.cd_world.specs.declared.world.WorldError.{WorldError}
 use Rattle.cd_world.specs.Causes.{Rose}
 use Rattle.cd_world.specs.Events.{written_to}
 use Rattle.cd_world.specs.Files.{Files}
 use Rattle.cd_meaning.specs.Stream.{Value, Done}
-use Rattle.cd_meaning.specs.Run.{effects, ending}
-use Rattle.cd_meaning.specs.TakeForm.{form_run, puts_of, whole_file, bytes_put}
+use Rattle.cd_meaning.specs.Run.{ending}
+use Rattle.cd_meaning.specs.Scripts.{script_run, standard_output, whole_files}
+use Rattle.cd_meaning.specs.TakeForm.{take_script}
 use Rattle.cd_cli.specs.declared.cause.Cause.{Cause}
 use Rattle.cd_cli.specs.declared.cause.Cause.TheVariants.{Success, NotBuilt, OutsideFault, NoMemory}
 use Rattle.cd_cli.specs.Cause.{cause_of}
@@ -31,14 +32,14 @@ IsRefusal cause = (cause ≡ OutsideFault) ⊎ (cause ≡ NoMemory)
 
 -- ---- by what was called
 
--- A script of the form was run by these calls. A front of what it means over what was seen was put, for each way in
--- which values are printed; and all of it, it is done and no call failed, where the cause is Success.
+-- A script of the form was run by these calls. They wrote a front of what standard output gets of its meaning over what
+-- was seen; and all of that, it is done and no call failed, where the cause is Success.
 pub record Runs (name : List ℕ) (count : ℕ) (cause : Cause) (calls : List Event) : Type 0 where
   pub shape : OpensAndCloses name calls
   pub behind : List ℕ
-  pub puts : (text : Value → List ℕ) → puts_of 2 (effects (form_run text (seen_of calls) count)) ≡ written_to 1 calls ++ behind
+  pub puts : standard_output (take_script name count) (seen_of calls) ≡ written_to 1 calls ++ behind
   pub whole : cause ≡ Success → behind ≡ []
-  pub done : cause ≡ Success → (text : Value → List ℕ) → ending (form_run text (seen_of calls) count) ≡ Done Value.Unit
+  pub done : cause ≡ Success → ending (script_run (take_script name count) (seen_of calls)) ≡ Done Value.Unit
   pub calm : cause ≡ Success → NoneFailed calls
 
 -- A text was judged, and then run by these calls where it is of the form.
@@ -71,18 +72,21 @@ pub record Called (Answer : List Event → List Event → Type 0) (l l' : List E
 
 -- ---- by what the files hold
 
--- A script of the form was run. A front of what it means over the whole file was put, for each way in which values are
--- printed; and all of it, and it is done, where the cause is Success.
-pub record Puts (bytes : List ℕ) (count : ℕ) (cause : Cause) (sent : List ℕ) : Type 0 where
+-- A script of the form was run. A front of what standard output gets of its meaning over the whole file was sent; and
+-- all of that, and it is done, where the cause is Success. This holds for every limit on a source that is not below the
+-- count, and whatever standard input holds.
+pub record Puts (contents : List ℕ → List ℕ) (name : List ℕ) (count : ℕ) (cause : Cause) (sent : List ℕ) : Type 0 where
   pub behind : List ℕ
-  pub puts : (text : Value → List ℕ) → bytes_put text bytes count ≡ sent ++ behind
+  pub puts : (input : List ℕ) (limit : ℕ) → count ≤ limit
+      → standard_output (take_script name count) (whole_files contents input limit (take_script name count)) ≡ sent ++ behind
   pub whole : cause ≡ Success → behind ≡ []
-  pub done : cause ≡ Success → (text : Value → List ℕ) → ending (form_run text (whole_file bytes) count) ≡ Done Value.Unit
+  pub done : cause ≡ Success → (input : List ℕ) (limit : ℕ) → count ≤ limit
+      → ending (script_run (take_script name count) (whole_files contents input limit (take_script name count))) ≡ Done Value.Unit
 
 -- A text was judged, and then run where it is of the form.
 pub data Sends (contents : List ℕ → List ℕ) (text : List ℕ) (cause : Cause) : List ℕ → Type 0 where
   not_of_form : NoForm text → cause ≡ NotBuilt → Sends contents text cause []
-  of_form : (name : List ℕ) (count : ℕ) (sent : List ℕ) → IsForm text name count → cause ≢ NotBuilt → Puts (contents name) count cause sent → Sends contents text cause sent
+  of_form : (name : List ℕ) (count : ℕ) (sent : List ℕ) → IsForm text name count → cause ≢ NotBuilt → Puts contents name count cause sent → Sends contents text cause sent
 
 -- The text that is judged is the script file's.
 pub data SendsScript (contents : List ℕ → List ℕ) (script : List ℕ) (cause : Cause) : List ℕ → Type 0 where
