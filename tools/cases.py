@@ -296,7 +296,7 @@ IMPORTS = [
     (f"{SPECS}.Rows.Trees", "Sentence"),
     (f"{SPECS}.Rows.Short", " ".join([*WORDS.values(), *CLASSES.values(), *TESTS.values(), *MAPS.values(), "not_class", "not_test",
      *OPERATORS.values(), *FORMS.values(), *STATEMENTS.values()])),
-    (f"{SPECS}.cases.Known", "nothing_seen known word_run runs_so effects_of effects_so ending_of ending_so"),
+    (f"{SPECS}.Cases.Known", "nothing_seen known word_run runs_so effects_of effects_so ending_of ending_so"),
 ]
 ALL_NAMES = {name.strip("◌") for _, names in IMPORTS for name in names.split()}
 

@@ -1,4 +1,5 @@
 pub mod Base
+pub mod Cases
 pub mod Classes
 pub mod ElementWords
 pub mod Fusion
@@ -23,4 +24,3 @@ pub mod Values
 pub mod WordMeanings
 pub mod Words
 pub mod Zips
-pub mod cases

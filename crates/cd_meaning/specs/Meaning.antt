@@ -1,6 +1,6 @@
 -- What a part of a pipe means, by the sort of what it takes, and what operators and forms make of parts.
 use Rattle.std.specs.Prelude.{ℕ, suc, ◌+◌, List, [], ◌∷◌, ◌++◌, length, Some, None}
-use Rattle.cd_meaning.specs.Stream.{Sort, Flow, Ended}
+use Rattle.cd_meaning.specs.Stream.{Sort, Flow}
 use Rattle.cd_meaning.specs.Run.{Component}
 use Rattle.cd_meaning.specs.Words.{Seen}
 use Rattle.cd_meaning.specs.Places.{Place, Marks}

@@ -1,5 +1,5 @@
 -- What each word of the language means: what it gives, and its run by the sort of what it takes.
-use Rattle.std.specs.Prelude.{ℕ, List, map, replicate, option_map}
+use Rattle.std.specs.Prelude.{replicate, option_map}
 use Rattle.cd_elem.specs.declared.word.Word.{Word}
 use Rattle.cd_elem.specs.declared.word.ElemWord.{ElemWord}
 use Rattle.cd_elem.specs.declared.word.PieceWord.{PieceWord}

@@ -1,5 +1,5 @@
 -- Base16 and base64, on empty inputs, on inputs that end or wait, and on bad ones.
-use Rattle.std.specs.Prelude.{◌≡◌, refl, [], ◌∷◌, codes}
+use Rattle.std.specs.Prelude.{◌≡◌, [], ◌∷◌, codes}
 use Rattle.cd_meaning.specs.Stream.{bad_base64, bad_hex, Ended}
 use Rattle.cd_meaning.specs.Rows.Short.{base64_decode_word, base64_encode_word, hex_decode_word, hex_encode_word}
 use Rattle.cd_meaning.specs.Rows.Given.{rows, at_end, gives_elem, late_elem, on_bytes, stops_at, waiting, waits_past}

@@ -1,5 +1,5 @@
 -- The words on pieces, each on an empty input, an input that ends before the word does, one that waits, and where the word ends by itself.
-use Rattle.std.specs.Prelude.{◌≡◌, refl, [], ◌∷◌, codes, true, false}
+use Rattle.std.specs.Prelude.{◌≡◌, [], ◌∷◌, codes, true, false}
 use Rattle.cd_meaning.specs.Stream.{Another, Ended, NoValues, Value, absent, present}
 use Rattle.cd_meaning.specs.Rows.Short.{begins, collect_word, drop_while_word, drop_word, empty, ends, filter_word, head_word, intersperse_word, last_word, length_word, map_word, not_test, null_word, pass_word, peek_word, prefix, repeat_word, reversed, shorter, suffix, take_while_word, take_word}
 use Rattle.cd_meaning.specs.Rows.Given.{rows, at_end, done_at, gives_piece, on_blocks, on_texts, waiting, waits_past}

@@ -1,16 +1,15 @@
 -- What scripts do at their sites, effects by output, and what is seen of whole files.
-use Rattle.std.specs.Prelude.{◌≡◌, refl, List, ℕ, [], ◌∷◌, ◌++◌, codes, map, bytes_eq, if◌then◌else◌}
+use Rattle.std.specs.Prelude.{◌≡◌, refl, List, ℕ, [], ◌∷◌, codes, map, bytes_eq, if◌then◌else◌}
 use lib.Utf8.{encode}
 use Rattle.std.specs.Fmt.{digits}
-use Rattle.cd_elem.specs.declared.script.Stmt.{Stmt}
-use Rattle.cd_meaning.specs.Stream.{Value, Effect, Open, Put, Close, Done, Halts, Stop, Long}
+use Rattle.cd_meaning.specs.Stream.{Open, Put, Close, Halts, Stop, Long}
 use Rattle.cd_meaning.specs.Run.{effects, ending}
 use Rattle.cd_meaning.specs.Words.{Mark, AtEnd, TooLong, Told, Seen}
-use Rattle.cd_meaning.specs.Places.{Place, Reads, ReadsInput, Writes, WritesOutput, Marks, Agree, Begins, by_output, output_of, sent_to, whole}
+use Rattle.cd_meaning.specs.Places.{Place, Reads, ReadsInput, Writes, WritesOutput, Marks, Agree, Begins, output_of, sent_to, whole}
 use Rattle.cd_meaning.specs.Pipes.{nodes}
 use Rattle.cd_meaning.specs.Scripts.{script_places, statement_places, script_run, standard_output}
 use Rattle.cd_meaning.specs.Rows.Trees.{Tree, Sentence, statement_of, all_places_mean}
-use Rattle.cd_meaning.specs.Rows.Short.{bytes_word, close_statement, exactly_e_form, feed_statement, hold_statement, length_e, let_statement, mark_form, piped, release_statement, run_statement, sequence_form, sink_file_word, source_file_word, stdin_word, stdout_word, tee_form, flat_word, blocks_word, zip_source_form, lines_word}
+use Rattle.cd_meaning.specs.Rows.Short.{bytes_word, close_statement, exactly_e_form, feed_statement, hold_statement, length_e, let_statement, mark_form, piped, release_statement, run_statement, sequence_form, sink_file_word, source_file_word, stdin_word, stdout_word, tee_form, flat_word, zip_source_form, lines_word}
 
 -- ---- places
 

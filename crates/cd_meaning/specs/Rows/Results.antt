@@ -1,5 +1,5 @@
 -- Texts of the program's values.
-use Rattle.std.specs.Prelude.{◌≡◌, List, ℕ, [], ◌∷◌, codes, Some, None, true, false}
+use Rattle.std.specs.Prelude.{◌≡◌, [], ◌∷◌, codes, Some, None, true}
 use lib.Utf8.{encode}
 use Rattle.std.specs.Fmt.{digits}
 use Rattle.cd_elem.specs.declared.value.Value.TheVariants as result

@@ -1,5 +1,5 @@
 -- Scripts of one `run` statement, from files of which this was seen.
-use Rattle.std.specs.Prelude.{◌≡◌, refl, ℕ, List, [], ◌∷◌, ◌++◌, codes}
+use Rattle.std.specs.Prelude.{◌≡◌, ℕ, List, [], ◌∷◌, ◌++◌, codes}
 use lib.Utf8.{encode}
 use Rattle.std.specs.Fmt.{digits}
 use Rattle.cd_meaning.specs.Stream.{bad_base64, bad_hex, bad_text, Close, Done, Halts, Long, More, Open, Put, ReadBad, Reading, Stop, Value}

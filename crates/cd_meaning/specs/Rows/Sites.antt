@@ -1,5 +1,5 @@
 -- Sources, sinks and `mark`, on what is seen of their sites.
-use Rattle.std.specs.Prelude.{◌≡◌, refl, [], ◌∷◌, codes}
+use Rattle.std.specs.Prelude.{◌≡◌, [], ◌∷◌, codes}
 use lib.Utf8.{encode}
 use Rattle.std.specs.Fmt.{digits}
 use Rattle.cd_meaning.specs.Stream.{bad_hex, bad_text, Close, Ended, Halted, Long, Open, Put, ReadBad, Stop, Value, present}

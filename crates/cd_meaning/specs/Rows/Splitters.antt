@@ -1,5 +1,5 @@
 -- The splitters, each on an empty input, one that ends and one that waits.
-use Rattle.std.specs.Prelude.{◌≡◌, refl, [], ◌∷◌, codes}
+use Rattle.std.specs.Prelude.{◌≡◌, [], ◌∷◌, codes}
 use Rattle.cd_meaning.specs.Stream.{Ended}
 use Rattle.cd_meaning.specs.Rows.Short.{chunks_of_word, exact_word, flat_word, lines_word, split_word, unlines_word}
 use Rattle.cd_meaning.specs.Rows.Given.{rows, at_end, gives_elem, gives_piece, late_piece, on_blocks, on_bytes, on_chars, waiting, waits_past}

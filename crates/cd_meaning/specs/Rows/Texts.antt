@@ -1,5 +1,5 @@
 -- UTF-8, on empty inputs, on inputs that end or wait, and on bad ones.
-use Rattle.std.specs.Prelude.{◌≡◌, refl, [], ◌∷◌}
+use Rattle.std.specs.Prelude.{◌≡◌, [], ◌∷◌}
 use lib.Utf8.{encode}
 use Rattle.cd_meaning.specs.Stream.{bad_text, Ended, Halted, ReadBad, Stop}
 use Rattle.cd_meaning.specs.Rows.Short.{utf8_encode_word, utf8_lenient_word, utf8_word}

@@ -1,21 +1,7 @@
 -- Trees as rows write them: data that computes, the tree of the program that each stands for, and what it means.
-use Rattle.std.specs.Prelude.{◌≡◌, refl, ℕ, List, [], ◌∷◌, ◌++◌, map, true, false}
+use Rattle.std.specs.Prelude.{◌≡◌, refl, ℕ, List, [], ◌∷◌, ◌++◌, map}
 use Rattle.std.proofs.Common.{◌∙◌, ap}
 use Rattle.cd_elem.specs.declared.word.Word.{Word}
-use Rattle.cd_elem.specs.declared.word.ElemWord.{ElemWord}
-use Rattle.cd_elem.specs.declared.word.PieceWord.{PieceWord}
-use Rattle.cd_elem.specs.declared.word.SplitWord.{SplitWord}
-use Rattle.cd_elem.specs.declared.word.TextWord.{TextWord}
-use Rattle.cd_elem.specs.declared.word.BaseWord.{BaseWord}
-use Rattle.cd_elem.specs.declared.word.SourceWord.{SourceWord}
-use Rattle.cd_elem.specs.declared.word.SinkWord.{SinkWord}
-use Rattle.cd_elem.specs.declared.word.Class.{Class}
-use Rattle.cd_elem.specs.declared.word.ClassName.{ClassName}
-use Rattle.cd_elem.specs.declared.word.ClassName.TheVariants.{Below}
-use Rattle.cd_elem.specs.declared.word.ByteMap.{ByteMap}
-use Rattle.cd_elem.specs.declared.word.PieceTest.{PieceTest}
-use Rattle.cd_elem.specs.declared.word.TestName.{TestName}
-use Rattle.cd_elem.specs.declared.word.PieceMap.{PieceMap}
 use Rattle.cd_elem.specs.declared.script.Join.{Join}
 use Rattle.cd_elem.specs.declared.script.Pipe.{Pipe}
 use Rattle.cd_elem.specs.declared.script.Pipe.TheVariants as pipe

@@ -4,7 +4,7 @@ use lib.Utf8.{encode}
 use Rattle.cd_meaning.specs.Stream.{Sort, Elem, Piece, Value, absent, present, Reading, More, Stop, bad_text, bad_hex, Ended, Halted, Done, Halts, Out, Do, Open, Put, Close}
 use Rattle.cd_meaning.specs.Run.{stamp, Then, Ends}
 use Rattle.cd_meaning.specs.Rows.Short.{pass_e, take_e, take_while_e, map_e, repeat_e, peek_e, length_e, sum_e, null_e, sink_null, pass_word, take_word, take_while_word, repeat_word, map_word, peek_word, length_word, null_word, lines_word, split_word, unlines_word, utf8_word, utf8_lenient_word, utf8_encode_word, sink_file_word, stdout_word, digit, lower, is_scalar, empty, ends, xor, add, rot13, prefix, suffix, reversed, not_test}
-use Rattle.cd_meaning.specs.cases.Known.{word_run, runs_so}
+use Rattle.cd_meaning.specs.Cases.Known.{word_run, runs_so}
 
 -- length
 word_177 : word_run length_word Sort.Text (map Piece ((48 ∷ 233 ∷ 98 ∷ []) ∷ (codes "AG") ∷ (codes "1") ∷ (13 ∷ []) ∷ [])) Ended ≡ Ends (stamp 5 4)

@@ -3,7 +3,7 @@ use Rattle.std.specs.Prelude.{[], ◌∷◌, ◌≡◌, codes, map, true, false}
 use Rattle.cd_meaning.specs.Stream.{Sort, Elem, Piece, Value, absent, present, NoValues, Another, Reading, More, Stop, bad_hex, bad_base64, Ended, Halted, Done, Halts, Out}
 use Rattle.cd_meaning.specs.Run.{stamp, Then, Ends}
 use Rattle.cd_meaning.specs.Rows.Short.{filter_e, drop_e, drop_while_e, head_e, last_e, all_e, any_e, collect_e, filter_word, intersperse_word, drop_word, drop_while_word, head_word, last_word, collect_word, exact_word, chunks_of_word, flat_word, hex_encode_word, hex_decode_word, base64_encode_word, base64_decode_word, digit, upper, lower, alpha, alnum, hexdigit, space, newline, is_scalar, below, empty, begins, ends, shorter, not_class, not_test}
-use Rattle.cd_meaning.specs.cases.Known.{word_run, runs_so}
+use Rattle.cd_meaning.specs.Cases.Known.{word_run, runs_so}
 
 -- allE digit
 word_1 : word_run (all_e digit) Sort.Chars (map Elem (codes "b=")) Ended ≡ Ends (stamp 1 1) (Done (Value.Bool false))
