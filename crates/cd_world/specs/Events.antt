@@ -58,13 +58,6 @@ IsWriteOn d (Wrote to bytes) = to.0 ≡ d
 IsWriteOn d (WriteFailed to) = to.0 ≡ d
 IsWriteOn d _ = ⊥
 
--- a read on this descriptor, or a try of one
-abbrev pub IsReadOn : ℕ → Event → Type 0
-IsReadOn d (Gave from bytes) = from.0 ≡ d
-IsReadOn d (GaveEnd from) = from.0 ≡ d
-IsReadOn d (ReadFailed from) = from.0 ≡ d
-IsReadOn d _ = ⊥
-
 -- a close of this descriptor, whatever it answered
 abbrev pub IsCloseOf : Descriptor → Event → Type 0
 IsCloseOf d (Closed e) = e ≡ d

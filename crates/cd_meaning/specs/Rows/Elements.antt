@@ -196,6 +196,9 @@ any_e_ends = simp rows
 null_e_empty : on_bytes null_e [] Ended ≡ done_at 1 0 (Value.Bool true)
 null_e_empty = simp rows
 
+null_e_short : on_bytes null_e (codes "a") Ended ≡ done_at 1 0 (Value.Bool false)
+null_e_short = simp rows
+
 null_e_waits : on_bytes null_e [] waiting ≡ waits_past 0
 null_e_waits = simp rows
 

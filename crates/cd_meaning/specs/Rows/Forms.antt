@@ -40,6 +40,9 @@ keep_leftover = simp rows
 keep_own_stamps : on_bytes (piped_keep (pass_e ∷ sequence_form (peek_e ∷ sink_file_word (codes "x") ∷ []) ∷ [])) (codes "a") waiting ≡ does_at 1 0 (Open 1) (does_at 1 1 (Put 1 97) (waits_past 1))
 keep_own_stamps = simp rows
 
+keep_short : on_bytes (piped_keep (map_e (xor 1) ∷ take_e 2 ∷ [])) (codes "a") Ended ≡ gives_elem 1 96 (at_end 1)
+keep_short = simp rows
+
 keep_waits : on_bytes (piped_keep (map_e (xor 1) ∷ take_e 2 ∷ [])) (codes "a") waiting ≡ gives_elem 1 96 (waits_past 1)
 keep_waits = simp rows
 
@@ -58,6 +61,9 @@ return_later = simp rows
 
 return_of_nothing : on_bytes (piped_return (drop_e 1 ∷ length_word ∷ [])) (codes "a") waiting ≡ done_at 1 1 (Value.Pair (Value.Num 0) (Value.ListV NoValues))
 return_of_nothing = simp rows
+
+return_short : on_blocks (piped_return (pass_word ∷ length_word ∷ [])) (codes "a" ∷ []) Ended ≡ done_at 2 1 (Value.Pair (Value.Num 1) (Value.ListV NoValues))
+return_short = simp rows
 
 return_waits : on_blocks (piped_return (pass_word ∷ length_word ∷ [])) (codes "a" ∷ []) waiting ≡ waits_past 1
 return_waits = simp rows
@@ -89,6 +95,9 @@ up_waits : on_blocks (piped_up (sequence_form (take_word 1 ∷ length_word ∷ [
 up_waits = simp rows
 
 -- `|?`: whether the second part asked past the first one's end
+asked_short : on_blocks (piped_asked (pass_word ∷ drop_word 2 ∷ [])) (codes "a" ∷ []) Ended ≡ done_at 2 1 (Value.Pair (present Value.Unit) Value.Unit)
+asked_short = simp rows
+
 asked_empty : on_bytes (piped_asked (pass_e ∷ drop_e 1 ∷ [])) [] Ended ≡ done_at 1 0 (Value.Pair (present Value.Unit) Value.Unit)
 asked_empty = simp rows
 

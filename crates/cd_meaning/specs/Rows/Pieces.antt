@@ -165,6 +165,9 @@ length_waits = simp rows
 null_empty : on_blocks null_word [] Ended ≡ done_at 1 0 (Value.Bool true)
 null_empty = simp rows
 
+null_short : on_blocks null_word (codes "a" ∷ []) Ended ≡ done_at 1 0 (Value.Bool false)
+null_short = simp rows
+
 null_waits : on_blocks null_word [] waiting ≡ waits_past 0
 null_waits = simp rows
 
