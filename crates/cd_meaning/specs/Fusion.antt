@@ -1,9 +1,7 @@
--- Fusion, sequence and sections: whole runs, put together by index.
+-- Fusion: whole runs, put together by index.
 use Rattle.std.specs.Prelude.{ℕ, zero, suc, ◌+◌, ◌==◌, nat_lt, max, not, if◌then◌else◌, List, length, take, drop}
 use Rattle.cd_meaning.specs.Stream.{Item, Value, absent, present, Ending, Done, Halts, Out, Do}
 use Rattle.cd_meaning.specs.Run.{Stamp, stamp, start, Run, Then, Ends, Component, outs, ending, end_of, restamp, follow, past}
-use Rattle.cd_meaning.specs.Words.{each, passes, front, number}
-use Rattle.cd_meaning.specs.ElementWords.{taken}
 
 -- A[j] is what stands in a up to and with its j-th Out, and all of a where it has fewer.
 
@@ -122,28 +120,3 @@ told r t v = Ends (place start t.need r) (Done (asked t.need (length (outs r)) (
 
 abbrev pub fuse_asked : Component → Component → Component
 fuse_asked = fuse_by told
-
--- ---- sections of the input
-
--- `exactly` and `exactlyE`
-abbrev pub exactly : ℕ → Component → Component
-exactly n = fuse_drained second_value (taken n)
-
--- the elements before the first newline, which is taken too
-abbrev pub one_line : Component
-one_line xs e =
-    let line = front (λ x. not (number x == 10)) xs in
-    let k = length line in
-    each passes 0 line (if k == length xs then past k e Value.Unit else Ends (stamp (suc k) (suc k)) (Done Value.Unit))
-
-abbrev pub line : Component → Component
-line = fuse_drained second_value one_line
-
--- ---- sequence
-
--- a stamp of the second part, where the first ended at s
-abbrev pub behind : Stamp → Stamp → Stamp
-behind s t = stamp (max s.need (s.net + t.need)) (s.net + t.net)
-
-abbrev pub sequence : Component → Component → Component
-sequence a b xs e = follow (a xs e) (λ s v. restamp (behind s) (b (drop s.net xs) e))

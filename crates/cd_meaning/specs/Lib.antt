@@ -13,6 +13,7 @@ pub mod Run
 pub mod Scan
 pub mod Scripts
 pub mod Seals
+pub mod Sections
 pub mod Sorts
 pub mod Sources
 pub mod Splitters

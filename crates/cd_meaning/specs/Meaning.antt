@@ -6,7 +6,8 @@ use Rattle.cd_meaning.specs.Words.{Seen}
 use Rattle.cd_meaning.specs.Places.{Place, Marks}
 use Rattle.cd_meaning.specs.Sources.{marked}
 use Rattle.cd_meaning.specs.Sorts.{sort_of, join, list_of, literal_at}
-use Rattle.cd_meaning.specs.Fusion.{fuse, fuse_keep, fuse_return, fuse_both, fuse_up, fuse_asked, exactly, line, sequence}
+use Rattle.cd_meaning.specs.Fusion.{fuse, fuse_keep, fuse_return, fuse_both, fuse_up, fuse_asked}
+use Rattle.cd_meaning.specs.Sections.{exactly, line, sequence}
 use Rattle.cd_meaning.specs.Zips.{zip_source, zip_sink, tee}
 
 -- What a part stands for: what it does at each of its sites, in their order, what it gives where this comes to it,
