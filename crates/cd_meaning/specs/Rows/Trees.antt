@@ -12,7 +12,6 @@ use Rattle.cd_meaning.specs.WordMeanings.{word_meaning}
 use Rattle.cd_meaning.specs.Pipes.{pipe_meaning, joined, all_of, word_is, chain_is, sequence_is, exactly_is, exactly_e_is, line_e_is, mark_is, tee_is, zip_source_is, zip_sink_is, zip_conduit_is}
 use Rattle.cd_meaning.specs.Scripts.{Statement, statement_meaning, statement_places, script_places, run_statement as run_meaning, let_statement as let_meaning, feed_statement as feed_meaning, close_statement as close_meaning}
 
-
 mutual
   pub data Tree : Type 0 where
     Leaf : Word → Tree
