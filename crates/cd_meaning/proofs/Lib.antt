@@ -1,10 +1,50 @@
-mod Cut
-mod Known
-mod Restamp
-mod Rising
-mod Scanned
+pub mod BaseRuns
+pub mod Begins
+pub mod BeginsForms
+pub mod BeginsFused
+pub mod BeginsZips
+pub mod Cut
+pub mod ElementRuns
+pub mod FeedMoves
+pub mod Finish
+pub mod Follow
+pub mod FreshForms
+pub mod FusedMoves
+pub mod Grouped
+pub mod KeepMoves
+pub mod KeepRuns
+pub mod Known
+pub mod LawfulForms
+pub mod LawfulScripts
+pub mod LawfulTrees
+pub mod LawfulWords
+pub mod MarkMoves
+pub mod Moves
+pub mod OwnMoves
+pub mod PendingMoves
+pub mod PieceRuns
+pub mod PlainMoves
+pub mod Restamp
+pub mod ResultMoves
+pub mod ResultRuns
+pub mod ReturnMoves
+pub mod Rising
+pub mod ScanMoves
+pub mod Scanned
+pub mod SequenceMoves
+pub mod SequenceRuns
+pub mod SourceRuns
+pub mod SplitterRuns
+pub mod Stamps
 pub mod TakeForm
+pub mod TextRuns
 mod Through
 mod Trace
-mod Weave
-mod WordRuns
+pub mod Weave
+pub mod WordRuns
+pub mod Work
+pub mod ZipEndedMoves
+pub mod ZipMoves
+pub mod ZipRuns
+pub mod ZipSinkMoves
+pub mod ZipSourceMoves

@@ -125,3 +125,25 @@ module _ {S : Type 0} (w : Scan S) where
   pub scan_ready : (i : ℕ) (st : S) (xs : List Item) (e : End) (v : Value) → w.ready st ≡ Some v → scan w i st xs e ≡ Ends (stamp i i) (Done v)
   scan_ready i st [] e v h = rw h
   scan_ready i st (x ∷ xs) e v h = rw h
+
+-- ---- the same runs, where less is carried
+
+abbrev pub carried : {S T : Type 0} → (S → T) → Reply S → Reply T
+carried h (Go acts st) = Go acts (h st)
+carried h (Back v) = Back v
+carried h (Fail f) = Fail f
+
+replied_by : {S T : Type 0} (h : S → T) (i : ℕ) (p : Reply S) (k : S → Run) (k' : T → Run) → ((st : S) → k st ≡ k' (h st)) → replied i p k ≡ replied i (carried h p) k'
+replied_by h i (Go acts st) k k' f = ap (acts_at (stamp (suc i) (suc i)) acts) (f st)
+replied_by h i (Back v) k k' f = refl
+replied_by h i (Fail g) k k' f = refl
+
+-- h is what u carries of what w carries
+pub scan_by : {S T : Type 0} (w : Scan S) (u : Scan T) (h : S → T)
+    → ((st : S) → w.ready st ≡ u.ready (h st)) → ((st : S) (x : Item) → carried h (w.step st x) ≡ u.step (h st) x)
+    → ((st : S) → w.close st ≡ u.close (h st)) → ((st : S) → w.ending st ≡ u.ending (h st))
+    → (i : ℕ) (st : S) (xs : List Item) (e : End) → scan w i st xs e ≡ scan u i (h st) xs e
+scan_by w u h h1 h2 h3 h4 i st [] e = rw (h1 st, h3 st, h4 st)
+scan_by w u h h1 h2 h3 h4 i st (x ∷ xs) e =
+    rw (h1 st) (ap (at_ready (u.ready (h st)) i)
+    (replied_by h i (w.step st x) _ _ (λ t. scan_by w u h h1 h2 h3 h4 (suc i) t xs e) ∙ ap (λ p. replied i p (λ t. scan u (suc i) t xs e)) (h2 st x)))

@@ -75,7 +75,7 @@ weave_asked (Say (Do e) b) (Ask c) = Say (Do e) (weave_asked b (Ask c))
 weave_asked (Ask b) (Ask c) = Ask (weave_asked b (Ask c))
 weave_asked (Fin e) (Ask c) = weave_asked (Fin e) c
 
-weave_any : (s t : Stamp) (a : Run) (c : Asked) → weave s a (Ask c) ≡ weave t a (Ask c)
+pub weave_any : (s t : Stamp) (a : Run) (c : Asked) → weave s a (Ask c) ≡ weave t a (Ask c)
 weave_any s t (Then u (Out x) a) c = refl
 weave_any s t (Then u (Do e) a) c = ap (λ r. Then u (Do e) r) (weave_any s t a c)
 weave_any s t (Ends u e) c = refl
@@ -106,7 +106,7 @@ asks_split : (i j k : ℕ) (x : Asked) → i ≤ j → j ≤ k → asks (k - i) 
 asks_split i j k x h1 h2 = (let e : k - i ≡ (j - i) + (k - j) = omega arith in rw e (asks_add (j - i) (k - j) x))
 
 -- marks may be counted from a later need
-asked_from : (i j : ℕ) (r : Run) → i ≤ j → Rising j r → asked i r ≡ asks (j - i) (asked j r)
+pub asked_from : (i j : ℕ) (r : Run) → i ≤ j → Rising j r → asked i r ≡ asks (j - i) (asked j r)
 asked_from i j (Then t x r) h k = asks_split i j t.need _ h k.0
 asked_from i j (Ends t e) h k = asks_split i j t.need _ h k
 

@@ -39,6 +39,38 @@ woven_same at at' fin fin' n a i (Then t act b) h1 h2 k =
 woven_same at at' fin fin' n a i (Ends t (Done v)) h1 h2 k = rw (h2 t v k)
 woven_same at at' fin fin' n a i (Ends t (Halts h)) h1 h2 k = rw (h1 t.need k)
 
+-- ---- other stamps for a
+
+pub effects_to_restamp : (g : Stamp → Stamp) (j : ℕ) (a r : Run) → restamp g (effects_to j a r) ≡ effects_to j (restamp g a) (restamp g r)
+effects_to_restamp g zero a r = refl
+effects_to_restamp g (suc j) (Then s (Out x) a) r = effects_to_restamp g j a r
+effects_to_restamp g (suc j) (Then s (Do e) a) r = ap (λ t. Then (g s) (Do e) t) (effects_to_restamp g (suc j) a r)
+effects_to_restamp g (suc j) (Ends s e) r = refl
+
+pub between_restamp : (g : Stamp → Stamp) (i j : ℕ) (a r : Run) → restamp g (between i j a r) ≡ between i j (restamp g a) (restamp g r)
+between_restamp g zero j a r = effects_to_restamp g j a r
+between_restamp g (suc i) zero a r = refl
+between_restamp g (suc i) (suc j) (Then s (Out x) a) r = between_restamp g i j a r
+between_restamp g (suc i) (suc j) (Then s (Do e) a) r = between_restamp g (suc i) (suc j) a r
+between_restamp g (suc i) (suc j) (Ends s e) r = refl
+
+pub place_restamp : (g : Stamp → Stamp) (s : Stamp) (j : ℕ) (a : Run) → place (g s) j (restamp g a) ≡ g (place s j a)
+place_restamp g s zero a = refl
+place_restamp g s (suc j) (Then t (Out x) a) = place_restamp g t j a
+place_restamp g s (suc j) (Then t (Do e) a) = place_restamp g s (suc j) a
+place_restamp g s (suc j) (Ends t e) = refl
+
+-- a's stamps are carried along as they are
+pub woven_restamp : (at at' : ℕ → Stamp) (fin fin' : Stamp → Value → Run) (g : Stamp → Stamp) (a : Run) (i : ℕ) (b : Run)
+    → ((j : ℕ) → at' j ≡ g (at j)) → ((t : Stamp) (v : Value) → fin' t v ≡ restamp g (fin t v))
+    → woven at' fin' (restamp g a) i b ≡ restamp g (woven at fin a i b)
+woven_restamp at at' fin fin' g a i (Then t act b) h1 h2 =
+    rw (between_restamp g i t.need a _, h1 t.need, woven_restamp at at' fin fin' g a t.need b h1 h2)
+woven_restamp at at' fin fin' g a i (Ends t (Done v)) h1 h2 = rw (between_restamp g i t.need a _, h2 t v)
+woven_restamp at at' fin fin' g a i (Ends t (Halts h)) h1 h2 = rw (between_restamp g i t.need a _, h1 t.need)
+
+-- ---- the stamp of A[0]
+
 pub place_any : (s t : Stamp) (j : ℕ) (a : Run) → 1 ≤ j → place s j a ≡ place t j a
 place_any s t zero a h = absurd (omega arith)
 place_any s t (suc j) (Then u (Out x) a) h = refl

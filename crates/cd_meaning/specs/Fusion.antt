@@ -1,7 +1,7 @@
 -- Fusion: whole runs, put together by index.
-use Rattle.std.specs.Prelude.{ℕ, zero, suc, ◌+◌, ◌==◌, nat_lt, max, not, if◌then◌else◌, List, length, take, drop}
+use Rattle.std.specs.Prelude.{ℕ, zero, suc, nat_lt, if◌then◌else◌, List, length, take, drop}
 use Rattle.cd_meaning.specs.Stream.{Item, Value, absent, present, Ending, Done, Halts, Out, Do}
-use Rattle.cd_meaning.specs.Run.{Stamp, stamp, start, Run, Then, Ends, Component, outs, ending, end_of, restamp, follow, past}
+use Rattle.cd_meaning.specs.Run.{Stamp, start, Run, Then, Ends, Component, outs, ending, end_of}
 
 -- A[j] is what stands in a up to and with its j-th Out, and all of a where it has fewer.
 

@@ -2,12 +2,16 @@ pub mod Base
 pub mod Cases
 pub mod Classes
 pub mod ElementWords
+pub mod Further
 pub mod Fusion
+pub mod Lawful
+pub mod LawfulTrees
 pub mod Laws
 pub mod Meaning
 pub mod PieceWords
 pub mod Pipes
 pub mod Places
+pub mod Rest
 pub mod Rows
 pub mod Run
 pub mod Scan
@@ -20,6 +24,7 @@ pub mod Splitters
 pub mod Stream
 pub mod TakeForm
 pub mod Text
+pub mod Twins
 pub mod ValueText
 pub mod Values
 pub mod WordMeanings

@@ -5,6 +5,7 @@ pub mod Elements
 pub mod Flows
 pub mod Forms
 pub mod Given
+pub mod Laws
 pub mod MoreScripts
 pub mod Pieces
 pub mod Places

@@ -1,0 +1,73 @@
+// Laws of the meaning. Each is the contract of a function that does nothing.
+ghost use Rattle.std.specs.Prelude.{◌≡◌, ◌≤◌, ◌<◌, ◌+◌, ℕ, Bool, List, [], ◌∷◌, ◌++◌, length, Some};
+ghost use Rattle.cd_elem.specs.declared.script.Join.TheVariants.{Plain};
+ghost use Rattle.cd_elem.specs.declared.script.Pipe.{Pipe};
+ghost use Rattle.cd_elem.specs.declared.script.Pipe.TheVariants as pipe;
+ghost use Rattle.cd_elem.specs.declared.script.Stmt.{Stmt};
+ghost use Rattle.cd_elem.specs.declared.word.ElemWord.{ElemWord};
+ghost use Rattle.cd_elem.specs.declared.word.PieceWord.{PieceWord};
+ghost use Rattle.cd_elem.specs.declared.word.SplitWord.{SplitWord};
+ghost use Rattle.cd_elem.specs.declared.word.Word.{Word};
+ghost use Rattle.cd_meaning.specs.Further.{Begins, Further, GoesOn};
+ghost use Rattle.cd_meaning.specs.Fusion.{fuse};
+ghost use Rattle.cd_meaning.specs.LawfulTrees.{IsLawfulScript, IsLawfulTree};
+ghost use Rattle.cd_meaning.specs.Laws.{EachStamp, IsRun, IsStamp, Rising, cut};
+ghost use Rattle.cd_meaning.specs.Pipes.{pipe_meaning};
+ghost use Rattle.cd_meaning.specs.Run.{Component};
+ghost use Rattle.cd_meaning.specs.Scripts.{script_run};
+ghost use Rattle.cd_meaning.specs.Stream.{End, Flow, Halt, Halted, Item};
+ghost use Rattle.cd_meaning.specs.Twins.{twin};
+ghost use Rattle.cd_meaning.specs.WordMeanings.{element_word, piece_word, split_word, word_meaning};
+ghost use Rattle.cd_meaning.specs.Words.{Seen};
+
+/// The prefix law: what was known of a front is never taken back.
+///
+/// On a front of the input of which nothing further is known, the run of each word and of each lawful tree is its run on
+/// the whole input, whatever follows, cut at that front. The run of a tree depends on what is seen of its own sites alone.
+/// Where some sites gave further bytes behind those after which they might go on, the run of each lawful tree and of each
+/// lawful script is the earlier run, or begins with all of that but its wait for one of these sites.
+pub fn prefix_law()
+    ensures words { (w : Word) (flow : Flow) (site : ℕ) (seen : Seen) (xs ys : List Item) (h : Halt) (e : End)
+        → (word_meaning w).run flow site seen xs (Halted h) ≡ cut (length xs) h ((word_meaning w).run flow site seen (xs ++ ys) e) }
+    ensures trees { (p : Pipe) → IsLawfulTree p → (flow : Flow) (site : ℕ) (seen : Seen) (xs ys : List Item) (h : Halt) (e : End)
+        → (pipe_meaning p).run flow site seen xs (Halted h) ≡ cut (length xs) h ((pipe_meaning p).run flow site seen (xs ++ ys) e) }
+    ensures own_sites { (p : Pipe) → IsLawfulTree p → (flow : Flow) (site : ℕ) (seen other : Seen)
+        → ((k : ℕ) → site ≤ k → k < site + length (pipe_meaning p).places → seen k ≡ other k) → (pipe_meaning p).run flow site seen ≡ (pipe_meaning p).run flow site other }
+    ensures sites { (p : Pipe) → IsLawfulTree p → (sites : ℕ → Bool) (seen further : Seen) → Further sites seen further → (flow : Flow) (site : ℕ)
+        → GoesOn sites ((pipe_meaning p).run flow site seen) ((pipe_meaning p).run flow site further) }
+    ensures scripts { (script : List Stmt) → IsLawfulScript script → (sites : ℕ → Bool) (seen further : Seen) → Further sites seen further
+        → Begins sites (script_run script seen) (script_run script further) }
+{}
+
+/// The need bound: no part asks for more than one value beyond those that it keeps.
+///
+/// Along the run of each word and of each lawful tree, on n values, needs never fall; a need is at most one more than the
+/// net there, and at most n + 1; a net is at most n, and at most the need.
+pub fn need_bound()
+    ensures words_rise { (w : Word) (flow : Flow) (site : ℕ) (seen : Seen) (xs : List Item) (e : End) → Rising 0 ((word_meaning w).run flow site seen xs e) }
+    ensures words { (w : Word) (flow : Flow) (site : ℕ) (seen : Seen) (xs : List Item) (e : End)
+        → EachStamp (IsStamp (length xs)) ((word_meaning w).run flow site seen xs e) }
+    ensures trees_rise { (p : Pipe) → IsLawfulTree p → (flow : Flow) (site : ℕ) (seen : Seen) (xs : List Item) (e : End)
+        → Rising 0 ((pipe_meaning p).run flow site seen xs e) }
+    ensures trees { (p : Pipe) → IsLawfulTree p → (flow : Flow) (site : ℕ) (seen : Seen) (xs : List Item) (e : End)
+        → EachStamp (IsStamp (length xs)) ((pipe_meaning p).run flow site seen xs e) }
+{}
+
+/// Plain fusion is associative, in acts, values and stamps: of components of which the later two obey the laws, and of
+/// trees of which the later two are lawful. `a | b | c` means `(a | b) | c`.
+pub fn weave_associativity()
+    ensures components { (a b c : Component) → IsRun b → IsRun c → (xs : List Item) (e : End) → fuse (fuse a b) c xs e ≡ fuse a (fuse b c) xs e }
+    ensures grouped { (p q r : Pipe) → IsLawfulTree q → IsLawfulTree r → (flow : Flow) (site : ℕ) (seen : Seen) (xs : List Item) (e : End)
+        → (pipe_meaning (pipe.Chain Plain (pipe.Chain Plain (p ∷ q ∷ []) ∷ r ∷ []))).run flow site seen xs e
+        ≡ (pipe_meaning (pipe.Chain Plain (p ∷ pipe.Chain Plain (q ∷ r ∷ []) ∷ []))).run flow site seen xs e }
+    ensures in_a_row { (p q r : Pipe) → pipe_meaning (pipe.Chain Plain (p ∷ q ∷ r ∷ [])) ≡ pipe_meaning (pipe.Chain Plain (p ∷ pipe.Chain Plain (q ∷ r ∷ []) ∷ [])) }
+{}
+
+/// Words and forms that have one formula: a word on elements and its twin on pieces (`takeE` and `take`, `lengthE` and
+/// `length`, and so on), `lines N` and `split` at the newline, `exactlyE` and `exactly`, `zipConduit` and `zipSink`.
+pub fn equal_words()
+    ensures twins { (w : ElemWord) (other : PieceWord) → twin w ≡ Some other → element_word w ≡ piece_word other }
+    ensures lines { (n : ℕ) → split_word (SplitWord.Lines n) ≡ split_word (SplitWord.Split 10 n) }
+    ensures sections { (n : ℕ) (p : Pipe) → pipe_meaning (pipe.ExactlyE n p) ≡ pipe_meaning (pipe.Exactly n p) }
+    ensures zips { (p q : Pipe) → pipe_meaning (pipe.ZipConduit p q) ≡ pipe_meaning (pipe.ZipSink p q) }
+{}
