@@ -1,6 +1,6 @@
 mod CommandSteps
-mod FormSteps
 mod Fronts
+mod JudgeSteps
 mod PassSteps
 mod ScriptSteps
 mod SeenSteps

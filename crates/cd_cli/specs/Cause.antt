@@ -1,27 +1,47 @@
 -- How a run of the command ended.
-use Rattle.std.specs.Prelude.{◌≡◌, ◌≤◌, ℕ, Result, Ok, Err}
+use Rattle.std.specs.Prelude.{◌≡◌, ◌≤◌, ◌⊎◌, ℕ, Result, Ok, Err}
 use Rattle.cd_world.specs.Causes.{Rose}
 use Rattle.cd_world.specs.declared.world.CloseFailed.{CloseFailed}
 use Rattle.cd_world.specs.declared.world.WorldError.{WorldError}
 use Rattle.cd_world.specs.declared.world.WorldError.TheVariants.{Failed, NoMemory}
+use Rattle.cd_script.specs.declared.refusal.ScriptRefusal.{ScriptRefusal}
+use Rattle.cd_script.specs.declared.refusal.ScriptRefusal.TheVariants as refusal
 use Rattle.cd_cli.specs.declared.cause.Cause.{Cause}
-use Rattle.cd_cli.specs.declared.cause.Cause.TheVariants.{Success, NotBuilt, OutsideFault, NoMemory as WithoutMemory}
+use Rattle.cd_cli.specs.declared.cause.Cause.TheVariants as cause
 
 abbrev pub status_of : Cause → ℕ
-status_of Success = 0
-status_of OutsideFault = 7
-status_of WithoutMemory = 9
-status_of NotBuilt = 10
+status_of cause.Success = 0
+status_of cause.Usage = 2
+status_of cause.ScriptFault = 3
+status_of cause.ScriptLimit = 4
+status_of (cause.ScriptText at) = 4
+status_of (cause.Syntax at) = 4
+status_of (cause.Limit which at) = 4
+status_of cause.OutsideFault = 7
+status_of cause.NoMemory = 9
+status_of cause.NotBuilt = 10
 
--- the cause that a refused call is
+-- the cause that a refused call is, once the script was read
 abbrev pub cause_of : WorldError → Cause
-cause_of Failed = OutsideFault
-cause_of NoMemory = WithoutMemory
+cause_of Failed = cause.OutsideFault
+cause_of NoMemory = cause.NoMemory
+
+-- and before
+abbrev pub script_cause : WorldError → Cause
+script_cause Failed = cause.ScriptFault
+script_cause NoMemory = cause.NoMemory
+
+-- the cause that a refused script is
+abbrev pub cause_of_refusal : ScriptRefusal → Cause
+cause_of_refusal (refusal.Syntax at) = cause.Syntax at
+cause_of_refusal (refusal.Limit which at) = cause.Limit which at
+cause_of_refusal refusal.NoMemory = cause.NoMemory
 
 -- the count of failed calls doesn't fall, and a fault is the cause only where it rose
-pub record HasOrigin (before now : ℕ) (cause : Cause) : Type 0 where
+pub record HasOrigin (before now : ℕ) (given : Cause) : Type 0 where
   pub later : before ≤ now
-  pub fault : cause ≡ OutsideFault → Rose before now
+  pub fault : given ≡ cause.OutsideFault → Rose before now
+  pub script_fault : given ≡ cause.ScriptFault → Rose before now
 
 -- A close that fails is the answer where there is no other failure.
 abbrev pub answer_of : {T U : Type 0} → Result T WorldError → Result U CloseFailed → Result T WorldError

@@ -1,5 +1,6 @@
--- What the command does: it reads a script, and runs it where it is of the form.
+-- What the command does: it reads a script, judges it, and runs it where it is of the form.
 use Rattle.std.specs.Prelude.{◌≡◌, ◌≢◌, ◌≤◌, ◌⊎◌, ℕ, List, [], ◌∷◌, ◌++◌, codes}
+use Rattle.cd_elem.specs.declared.script.Stmt.{Stmt}
 use Rattle.cd_world.specs.declared.event.Event.{Event}
 use Rattle.cd_world.specs.declared.world.WorldError.{WorldError}
 use Rattle.cd_world.specs.Causes.{Rose}
@@ -10,25 +11,35 @@ use Rattle.cd_meaning.specs.Run.{ending}
 use Rattle.cd_meaning.specs.Scripts.{script_run, standard_output, whole_files}
 use Rattle.cd_meaning.specs.TakeForm.{take_script}
 use Rattle.cd_cli.specs.declared.cause.Cause.{Cause}
-use Rattle.cd_cli.specs.declared.cause.Cause.TheVariants.{Success, NotBuilt, OutsideFault, NoMemory}
-use Rattle.cd_cli.specs.Cause.{cause_of}
-use Rattle.cd_cli.specs.Form.{IsForm}
+use Rattle.cd_cli.specs.declared.cause.Cause.TheVariants.{Success, Usage, ScriptFault, NotBuilt, OutsideFault, NoMemory}
+use Rattle.cd_cli.specs.Cause.{script_cause}
+use Rattle.cd_cli.specs.Form.{NoForm}
+use Rattle.cd_cli.specs.Judge.{HasTree, HasNone, IsScriptOf}
 use Rattle.cd_cli.specs.Script.{ReadsWhole, TriesRead}
 use Rattle.cd_cli.specs.Seen.{seen_of}
 use Rattle.cd_cli.specs.Take.{NoneFailed, OpensAndCloses}
 
+-- a word that begins with `-` is an option, unless it is `-` alone
+abbrev pub IsOption : List ℕ → Type 0
+IsOption word = (rest : List ℕ) × (word ≡ 45 ∷ rest) × (rest ≢ [])
+
+-- a word that is not empty and no option
+pub record IsScriptName (word : List ℕ) : Type 0 where
+  pub some : word ≢ []
+  pub no_option : IsOption word → ⊥
+
 -- the words `run SCRIPT`
 pub record NamesScript (words : List (List ℕ)) (script : List ℕ) : Type 0 where
   pub words_are : words ≡ codes "run" ∷ script ∷ []
-  pub some : script ≢ []
+  pub name : IsScriptName script
 
--- a text that is of the form for no name and count
-abbrev pub NoForm : List ℕ → Type 0
-NoForm text = (name : List ℕ) (count : ℕ) → IsForm text name count → ⊥
+-- a run came to its end, or a call on the outside was refused, or memory was wanting
+abbrev pub IsRunCause : Cause → Type 0
+IsRunCause cause = (cause ≡ Success) ⊎ ((cause ≡ OutsideFault) ⊎ (cause ≡ NoMemory))
 
--- a refused call on the outside, or want of memory
-abbrev pub IsRefusal : Cause → Type 0
-IsRefusal cause = (cause ≡ OutsideFault) ⊎ (cause ≡ NoMemory)
+-- a script could not be read: a call on the outside failed, or memory was wanting
+abbrev pub IsUnread : Cause → Type 0
+IsUnread cause = (cause ≡ ScriptFault) ⊎ (cause ≡ NoMemory)
 
 -- ---- by what was called
 
@@ -42,25 +53,36 @@ pub record Runs (name : List ℕ) (count : ℕ) (cause : Cause) (calls : List Ev
   pub done : cause ≡ Success → ending (script_run (take_script name count) (seen_of calls)) ≡ Done Value.Unit
   pub calm : cause ≡ Success → NoneFailed calls
 
--- A text was judged, and then run by these calls where it is of the form.
-pub data Judges (text : List ℕ) (cause : Cause) : List Event → Type 0 where
-  not_of_form : NoForm text → cause ≡ NotBuilt → Judges text cause []
-  of_form : (name : List ℕ) (count : ℕ) (calls : List Event) → IsForm text name count → cause ≢ NotBuilt → Runs name count cause calls → Judges text cause calls
+-- A tree was run by these calls where it is of the form.
+pub data RunsTree (tree : List Stmt) (cause : Cause) : List Event → Type 0 where
+  no_form : NoForm tree → cause ≡ NotBuilt → RunsTree tree cause []
+  of_form : (name : List ℕ) (count : ℕ) (calls : List Event) → tree ≡ take_script name count → IsRunCause cause → Runs name count cause calls → RunsTree tree cause calls
 
--- What was called for a text.
+-- A text was judged, and its tree was run by these calls.
+pub data Judges (text : List ℕ) (cause : Cause) : List Event → Type 0 where
+  no_memory : cause ≡ NoMemory → Judges text cause []
+  no_script : HasNone text cause → Judges text cause []
+  of_tree : (tree : List Stmt) (calls : List Event) → HasTree text tree → RunsTree tree cause calls → Judges text cause calls
+
+-- What was called for a tree, and for a text.
+pub record LogsTree (tree : List Stmt) (cause : Cause) (l l' : List Event) : Type 0 where
+  pub calls : List Event
+  pub log : l' ≡ l ++ calls
+  pub runs : RunsTree tree cause calls
+
 pub record LogsJudging (text : List ℕ) (cause : Cause) (l l' : List Event) : Type 0 where
   pub calls : List Event
   pub log : l' ≡ l ++ calls
   pub judges : Judges text cause calls
 
--- The first calls read the script, of which at most 256 bytes are read. The text that is judged is all that they gave, and the other calls run it.
+-- The first calls read the script, of which at most 65,537 bytes are read. The text that is judged is all that they gave, and the other calls run it.
 pub data ReadsAndJudges (script : List ℕ) (cause : Cause) : List Event → List Event → Type 0 where
-  unread : (error : WorldError) (reading : List Event) → TriesRead script 256 error reading → cause ≡ cause_of error → ReadsAndJudges script cause reading []
-  read : (text : List ℕ) (reading calls : List Event) → ReadsWhole script 256 text reading → Judges text cause calls → ReadsAndJudges script cause reading calls
+  unread : (error : WorldError) (reading : List Event) → TriesRead script 65537 error reading → cause ≡ script_cause error → ReadsAndJudges script cause reading []
+  read : (text : List ℕ) (reading calls : List Event) → ReadsWhole script 65537 text reading → Judges text cause calls → ReadsAndJudges script cause reading calls
 
 -- The words are judged, and nothing is called for words that name no script.
 pub data Calls (words : List (List ℕ)) (cause : Cause) : List Event → List Event → Type 0 where
-  other_words : ((script : List ℕ) → NamesScript words script → ⊥) → cause ≡ NotBuilt → Calls words cause [] []
+  other_words : ((script : List ℕ) → NamesScript words script → ⊥) → cause ≡ Usage → Calls words cause [] []
   run_words : (script : List ℕ) (reading calls : List Event) → NamesScript words script → ReadsAndJudges script cause reading calls → Calls words cause reading calls
 
 -- What was called in all: first these calls, then those.
@@ -83,22 +105,28 @@ pub record Puts (contents : List ℕ → List ℕ) (name : List ℕ) (count : �
   pub done : cause ≡ Success → (input : List ℕ) (limit : ℕ) → count ≤ limit
       → ending (script_run (take_script name count) (whole_files contents input limit (take_script name count))) ≡ Done Value.Unit
 
--- A text was judged, and then run where it is of the form.
+-- A tree was run where it is of the form.
+pub data SendsTree (contents : List ℕ → List ℕ) (tree : List Stmt) (cause : Cause) : List ℕ → Type 0 where
+  no_form : NoForm tree → cause ≡ NotBuilt → SendsTree contents tree cause []
+  of_form : (name : List ℕ) (count : ℕ) (sent : List ℕ) → tree ≡ take_script name count → IsRunCause cause → Puts contents name count cause sent → SendsTree contents tree cause sent
+
+-- A text was judged, and its tree was run.
 pub data Sends (contents : List ℕ → List ℕ) (text : List ℕ) (cause : Cause) : List ℕ → Type 0 where
-  not_of_form : NoForm text → cause ≡ NotBuilt → Sends contents text cause []
-  of_form : (name : List ℕ) (count : ℕ) (sent : List ℕ) → IsForm text name count → cause ≢ NotBuilt → Puts contents name count cause sent → Sends contents text cause sent
+  no_memory : cause ≡ NoMemory → Sends contents text cause []
+  no_script : HasNone text cause → Sends contents text cause []
+  of_tree : (tree : List Stmt) (sent : List ℕ) → HasTree text tree → SendsTree contents tree cause sent → Sends contents text cause sent
 
 -- The text that is judged is the script file's.
 pub data SendsScript (contents : List ℕ → List ℕ) (script : List ℕ) (cause : Cause) : List ℕ → Type 0 where
-  unread : IsRefusal cause → SendsScript contents script cause []
+  unread : IsUnread cause → SendsScript contents script cause []
   read : (sent : List ℕ) → Sends contents (contents script) cause sent → SendsScript contents script cause sent
 
 -- The words are judged, and nothing is sent for words that name no script.
 pub data Answers (words : List (List ℕ)) (contents : List ℕ → List ℕ) (cause : Cause) : List ℕ → Type 0 where
-  other_words : ((script : List ℕ) → NamesScript words script → ⊥) → cause ≡ NotBuilt → Answers words contents cause []
+  other_words : ((script : List ℕ) → NamesScript words script → ⊥) → cause ≡ Usage → Answers words contents cause []
   run_words : (script sent : List ℕ) → NamesScript words script → SendsScript contents script cause sent → Answers words contents cause sent
 
--- What was sent in all, by the answer to a text, to a script, and to the words. No file is changed.
+-- What was sent in all, by the answer to a tree, a text, a script, and to the words. No file is changed.
 pub record Sent (Answer : List ℕ → Type 0) (f f' : Files) : Type 0 where
   pub sent : List ℕ
   pub output : f'.output ≡ f.output ++ sent
@@ -108,4 +136,4 @@ pub record Sent (Answer : List ℕ → Type 0) (f f' : Files) : Type 0 where
 -- With the words of a run, a script of the form and no failed call, the script runs to its end, or there is no memory.
 abbrev pub Completes : List (List ℕ) → (List ℕ → List ℕ) → ℕ → ℕ → Cause → Type 0
 Completes words contents before now cause =
-    (script name : List ℕ) (count : ℕ) → NamesScript words script → IsForm (contents script) name count → (Rose before now → ⊥) → (cause ≡ Success) ⊎ (cause ≡ NoMemory)
+    (script name : List ℕ) (count : ℕ) → NamesScript words script → IsScriptOf (contents script) (take_script name count) → (Rose before now → ⊥) → (cause ≡ Success) ⊎ (cause ≡ NoMemory)

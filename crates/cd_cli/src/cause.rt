@@ -1,7 +1,9 @@
 // How a run of the command ended.
 ghost use Rattle.std.specs.Prelude.{◌≡◌};
-ghost use Rattle.cd_cli.specs.Cause.{status_of};
+ghost use Rattle.cd_cli.specs.Cause.{status_of, cause_of_refusal, script_cause};
 
+use cd_elem::LimitKind;
+use cd_script::ScriptRefusal;
 use cd_world::WorldError;
 
 /// Why the command ended.
@@ -9,9 +11,21 @@ use cd_world::WorldError;
 pub enum Cause {
     /// The script ran to its end, and no call on the outside failed.
     Success,
-    /// The words or the script are of no form that runs yet.
+    /// The words are none that the command takes.
+    Usage,
+    /// The script could not be opened, read or closed.
+    ScriptFault,
+    /// The script has more than 65,536 bytes.
+    ScriptLimit,
+    /// The script is not UTF-8. `at` is the length of its longest front that is.
+    ScriptText { at: u32 },
+    /// No token begins at this byte of the script, or no script goes on with the token there.
+    Syntax { at: u32 },
+    /// The token at this byte of the script passes a limit.
+    Limit { which: LimitKind, at: u32 },
+    /// The script is of a form that does not run yet.
     NotBuilt,
-    /// A call on the outside failed.
+    /// A call on the outside failed, after the script was closed.
     OutsideFault,
     /// There was no memory for some step.
     NoMemory,
@@ -24,6 +38,12 @@ impl Cause {
     {
         match self {
             Cause::Success => 0,
+            Cause::Usage => 2,
+            Cause::ScriptFault => 3,
+            Cause::ScriptLimit
+            | Cause::ScriptText { .. }
+            | Cause::Syntax { .. }
+            | Cause::Limit { .. } => 4,
             Cause::OutsideFault => 7,
             Cause::NoMemory => 9,
             Cause::NotBuilt => 10,
@@ -41,6 +61,28 @@ impl From<WorldError> for Cause {
             WorldError::Failed => Cause::OutsideFault,
             WorldError::NoMemory => Cause::NoMemory,
         }
+    }
+}
+
+impl From<ScriptRefusal> for Cause {
+    ghost from_gives = { λ refusal cause. cause ≡ cause_of_refusal refusal };
+
+    fn from(refusal: ScriptRefusal) -> Cause {
+        match refusal {
+            ScriptRefusal::Syntax { at } => Cause::Syntax { at },
+            ScriptRefusal::Limit { which, at } => Cause::Limit { which, at },
+            ScriptRefusal::NoMemory => Cause::NoMemory,
+        }
+    }
+}
+
+/// The cause where a script could not be read.
+pub fn script_cause(error: WorldError) -> Cause
+    ensures { result ≡ script_cause error }
+{
+    match error {
+        WorldError::Failed => Cause::ScriptFault,
+        WorldError::NoMemory => Cause::NoMemory,
     }
 }
 

@@ -4,6 +4,7 @@
 mod cause;
 mod command;
 mod form;
+mod judge;
 mod script;
 mod take;
 

@@ -9,8 +9,8 @@ use crate::take::{buffer_of, with_closing};
 use cd_world::{Descriptor, World, WorldError};
 use std::alloc::Global;
 
-/// How many bytes of a script are read: more than any script of the form has.
-const SCRIPT_SIZE: usize = 256;
+/// How many bytes of a script are read: one more than a script may have.
+const SCRIPT_SIZE: usize = 65_537;
 
 /// Fills the front of a buffer with what is left of a file, up to the size of the buffer, and says how many bytes
 /// those are.
@@ -48,6 +48,24 @@ fn read_front<W: World>(world: &mut W, name: &str, buffer: &mut [u8]) -> Result<
     with_closing(answer, closing)
 }
 
+/// Reads a file to its end, or to so many bytes, and closes it.
+fn read_at_most<W: World>(
+    alloc: Global,
+    world: &mut W,
+    name: &str,
+    size: usize,
+) -> Result<Vec<u8>, WorldError>
+    ensures cause { HasCause (W.faults world.old) (W.faults world.new) result }
+    ensures live { W.live world.new ≡ W.live world.old }
+    ensures files { IsTrue W.tells_files → ReadsFront name.now size (λ text. text.items) result (W.files world.old) (W.files world.new) }
+    ensures log { IsTrue W.tells_log → LogsRead name.now size (λ text. text.items) result (W.log world.old) (W.log world.new) }
+{
+    let mut text = buffer_of(alloc, size)?;
+    let filled = read_front(world, name, &mut text)?;
+    text.truncate(filled);
+    Ok(text)
+}
+
 /// Reads a script file to its end, or to `SCRIPT_SIZE` bytes, and closes it.
 pub fn read_script<W: World>(
     alloc: Global,
@@ -56,11 +74,8 @@ pub fn read_script<W: World>(
 ) -> Result<Vec<u8>, WorldError>
     ensures cause { HasCause (W.faults world.old) (W.faults world.new) result }
     ensures live { W.live world.new ≡ W.live world.old }
-    ensures files { IsTrue W.tells_files → ReadsFront name.now 256 (λ text. text.items) result (W.files world.old) (W.files world.new) }
-    ensures log { IsTrue W.tells_log → LogsRead name.now 256 (λ text. text.items) result (W.log world.old) (W.log world.new) }
+    ensures files { IsTrue W.tells_files → ReadsFront name.now 65537 (λ text. text.items) result (W.files world.old) (W.files world.new) }
+    ensures log { IsTrue W.tells_log → LogsRead name.now 65537 (λ text. text.items) result (W.log world.old) (W.log world.new) }
 {
-    let mut text = buffer_of(alloc, SCRIPT_SIZE)?;
-    let filled = read_front(world, name, &mut text)?;
-    text.truncate(filled);
-    Ok(text)
+    read_at_most(alloc, world, name, SCRIPT_SIZE)
 }

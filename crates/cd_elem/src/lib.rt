@@ -12,6 +12,7 @@ mod name;
 mod roomy;
 mod script;
 mod site;
+mod token;
 mod value;
 mod word;
 
@@ -26,6 +27,10 @@ pub use name::Name;
 pub use roomy::Roomy;
 pub use script::{Join, Pipe, PipeList, Script, Stmt, StmtList};
 pub use site::Site;
+pub use token::{
+    ClassedWord, CountedWord, EndMap, EndTest, FileWord, Keyword, Lexeme, LimitKind, ListWord,
+    LiteralWord, NumberMap, Opening, PlainClass, PlainWord, Section, Sign, TestedWord, Token, Zip,
+};
 pub use value::{Value, ValueList};
 pub use word::{
     BaseWord, ByteMap, Class, ClassName, ElemWord, PieceMap, PieceTest, PieceWord, SinkWord,

@@ -11,7 +11,7 @@ use Rattle.cd_elem.specs.declared.script.Stmt.{Stmt}
 use Rattle.cd_meaning.specs.Stream.{Value, More, Stop, Reading, ReadBad, Long, Ending, Done, Halts, Effect, Open, Put, Close}
 use Rattle.cd_meaning.specs.Words.{Mark, AtEnd, MayGoOn, Broken, TooLong}
 
-abbrev take_words : List ℕ → ℕ → List Pipe
+abbrev pub take_words : List ℕ → ℕ → List Pipe
 take_words name n =
     pipe.Word (Word.Source (SourceWord.SourceFile name)) ∷ pipe.Word (Word.Elem (ElemWord.TakeE n)) ∷ pipe.Word (Word.Sink SinkWord.Stdout) ∷ []
 

@@ -1,6 +1,6 @@
 // The command over a world in memory.
 use super::*;
-use cd_elem::{Items, Literal, NoMemory, NumberList};
+use cd_elem::{Items, LimitKind, Literal, NoMemory, NumberList};
 use cd_world::{Event, Fail, MemoryFile, MemoryFiles, MemoryWorld};
 use std::alloc::AllocError;
 use std::test;
@@ -16,10 +16,10 @@ fn cuts_of(alloc: Global, size: u32) -> Result<NumberList, NoMemory> {
     Items::from_slice(alloc, &[size; 64])
 }
 
-fn member(alloc: Global, name: &str, bytes: &str, size: u32) -> Result<MemoryFile, NoMemory> {
+fn member(alloc: Global, name: &str, bytes: &[u8], size: u32) -> Result<MemoryFile, NoMemory> {
     Ok(MemoryFile {
         name: Literal::new(alloc, name)?,
-        bytes: Items::from_slice(alloc, bytes.as_bytes())?,
+        bytes: Items::from_slice(alloc, bytes)?,
         read_cuts: cuts_of(alloc, size)?,
         write_cuts: cuts_of(alloc, size)?,
         fails: Items::new(alloc),
@@ -33,8 +33,18 @@ fn world_of<'a>(
     held: &'a str,
     size: u32,
 ) -> Result<MemoryWorld, NoMemory> {
+    world_with(alloc, script.as_bytes(), held, size)
+}
+
+/// The same with a script of any bytes.
+fn world_with<'a>(
+    alloc: Global,
+    script: &'a [u8],
+    held: &'a str,
+    size: u32,
+) -> Result<MemoryWorld, NoMemory> {
     let mut files: MemoryFiles = Items::new(alloc);
-    for (name, bytes) in [("s", script), ("a", held), ("<stdout>", "")] {
+    for (name, bytes) in [("s", script), ("a", held.as_bytes()), ("<stdout>", b"")] {
         let file = member(alloc, name, bytes, size)?;
         files.push(file).map_err(|_| NoMemory)?;
     }
@@ -45,7 +55,7 @@ fn world_of<'a>(
 fn failing_world(alloc: Global, name: &str, fail: Fail) -> Result<MemoryWorld, NoMemory> {
     let mut files: MemoryFiles = Items::new(alloc);
     for (member_name, bytes) in [("s", ROW), ("a", "hello world"), ("<stdout>", "")] {
-        let mut file = member(alloc, member_name, bytes, 0)?;
+        let mut file = member(alloc, member_name, bytes.as_bytes(), 0)?;
         if member_name == name {
             file.fails = Items::from_slice(alloc, &[fail])?;
         }
@@ -143,40 +153,76 @@ fn rows(rt: HostRuntime) -> Result<(), test::Fail> {
 fn faults(rt: HostRuntime) -> Result<(), test::Fail> {
     let alloc = rt.alloc();
     let words = words_of(alloc, "run s")?;
-    for (name, fail, output, calls) in [
-        ("s", Fail::Opening(1), "", "open failed, "),
-        ("s", Fail::Reading(1), "", "open s, read failed, close, "),
-        ("s", Fail::Reading(2), "", "open s, read failed, close, "),
-        ("s", Fail::Closing(1), "", "open s, end, close failed, "),
+    for (name, fail, cause, status, output, calls) in [
+        (
+            "s",
+            Fail::Opening(1),
+            Cause::ScriptFault,
+            3,
+            "",
+            "open failed, ",
+        ),
+        (
+            "s",
+            Fail::Reading(1),
+            Cause::ScriptFault,
+            3,
+            "",
+            "open s, read failed, close, ",
+        ),
+        (
+            "s",
+            Fail::Reading(2),
+            Cause::ScriptFault,
+            3,
+            "",
+            "open s, read failed, close, ",
+        ),
+        (
+            "s",
+            Fail::Closing(1),
+            Cause::ScriptFault,
+            3,
+            "",
+            "open s, end, close failed, ",
+        ),
         (
             "a",
             Fail::Opening(1),
+            Cause::OutsideFault,
+            7,
             "",
             "open s, end, close, open failed, ",
         ),
         (
             "a",
             Fail::Reading(1),
+            Cause::OutsideFault,
+            7,
             "",
             "open s, end, close, open a, read failed, close, ",
         ),
         (
             "<stdout>",
             Fail::Writing(1),
+            Cause::OutsideFault,
+            7,
             "",
             "open s, end, close, open a, write failed, close, ",
         ),
         (
             "a",
             Fail::Closing(1),
+            Cause::OutsideFault,
+            7,
             "hello",
             "open s, end, close, open a, close failed, ",
         ),
     ] {
         let mut world = failing_world(alloc, name, fail)?;
         let outcome = conduit_main(alloc, &words, &mut world);
-        assert_eq!(rt; outcome.cause, Cause::OutsideFault, "{fail:?} of {name}");
-        assert_eq!(rt; outcome.status, 7);
+        assert_eq!(rt; outcome.cause, cause, "{fail:?} of {name}");
+        assert_eq!(rt; outcome.status, status);
         assert_eq!(rt; world.faults(), 1);
         assert!(rt; has_output(&world, output), "{fail:?} of {name}");
         assert_eq!(rt;
@@ -189,47 +235,122 @@ fn faults(rt: HostRuntime) -> Result<(), test::Fail> {
 }
 
 #[test]
-fn other_words(rt: HostRuntime) -> Result<(), test::Fail> {
+fn absent_script(rt: HostRuntime) -> Result<(), test::Fail> {
     let alloc = rt.alloc();
-    for text in ["run", "run s s", "walk s", "run ", " s", ""] {
+    for text in ["run absent", "run -"] {
         let words = words_of(alloc, text)?;
         let mut world = world_of(alloc, ROW, "hello", 0)?;
         let outcome = conduit_main(alloc, &words, &mut world);
-        assert_eq!(rt; outcome.cause, Cause::NotBuilt, "{text}");
-        assert_eq!(rt; outcome.status, 10, "{text}");
-        assert!(rt; world.log().is_empty(), "{text}");
+        assert_eq!(rt; outcome.cause, Cause::ScriptFault, "{text}");
+        assert_eq!(rt; outcome.status, 3);
+        assert_eq!(rt; calls_of(alloc, &world)?.as_str(), "open failed, ");
     }
-    let mut world = world_of(alloc, ROW, "hello", 0)?;
-    assert_eq!(rt; conduit_main(alloc, &[], &mut world).status, 10);
     Ok(())
 }
 
 #[test]
-fn other_scripts(rt: HostRuntime) -> Result<(), test::Fail> {
+fn other_words(rt: HostRuntime) -> Result<(), test::Fail> {
+    let alloc = rt.alloc();
+    for text in [
+        "run", "run s s", "walk s", "run ", " s", "", "run -s", "run --", "s",
+    ] {
+        let words = words_of(alloc, text)?;
+        let mut world = world_of(alloc, ROW, "hello", 0)?;
+        let outcome = conduit_main(alloc, &words, &mut world);
+        assert_eq!(rt; outcome.cause, Cause::Usage, "{text}");
+        assert_eq!(rt; outcome.status, 2, "{text}");
+        assert!(rt; world.log().is_empty(), "{text}");
+    }
+    let mut world = world_of(alloc, ROW, "hello", 0)?;
+    assert_eq!(rt; conduit_main(alloc, &[], &mut world).status, 2);
+    Ok(())
+}
+
+#[test]
+fn refused_scripts(rt: HostRuntime) -> Result<(), test::Fail> {
+    let alloc = rt.alloc();
+    let words = words_of(alloc, "run s")?;
+    for (script, cause) in [
+        ("run sourceFile \"a\" | | stdout;", Cause::Syntax { at: 21 }),
+        (
+            "run sourceFile \"a\" | takeE 5 | stdout",
+            Cause::Syntax { at: 37 },
+        ),
+        ("run sourceFile \"a", Cause::Syntax { at: 15 }),
+        (
+            "run sourceFile \"a\" | takeE 05 | stdout;",
+            Cause::Syntax { at: 28 },
+        ),
+        (
+            "run sourceFile \"a\" | lines 0 | length;",
+            Cause::Limit {
+                which: LimitKind::Number,
+                at: 27,
+            },
+        ),
+        (
+            "run sourceFile \"a\" | takeE 18446744073709551616 | stdout;",
+            Cause::Limit {
+                which: LimitKind::Number,
+                at: 27,
+            },
+        ),
+        (
+            "run {{{{{{{{{{{{{{{{{{{{{{{{{{{{{{{{{",
+            Cause::Limit {
+                which: LimitKind::Depth,
+                at: 36,
+            },
+        ),
+    ] {
+        let mut world = world_of(alloc, script, "hello", 0)?;
+        let outcome = conduit_main(alloc, &words, &mut world);
+        assert_eq!(rt; outcome.cause, cause, "{script}");
+        assert_eq!(rt; outcome.status, 4);
+        assert_eq!(rt;
+            calls_of(alloc, &world)?.as_str(),
+            "open s, end, close, ",
+            "{script}"
+        );
+    }
+    Ok(())
+}
+
+#[test]
+fn no_text(rt: HostRuntime) -> Result<(), test::Fail> {
+    let alloc = rt.alloc();
+    let words = words_of(alloc, "run s")?;
+    for (script, at) in [
+        (b"\x72\xff".as_slice(), 1),
+        (b"\xe2\x82".as_slice(), 0),
+        (b"# \xc3\xa9\xed\xa0\x80".as_slice(), 4),
+    ] {
+        let mut world = world_with(alloc, script, "hello", 0)?;
+        let outcome = conduit_main(alloc, &words, &mut world);
+        assert_eq!(rt; outcome.cause, Cause::ScriptText { at });
+        assert_eq!(rt; outcome.status, 4);
+        assert_eq!(rt; calls_of(alloc, &world)?.as_str(), "open s, end, close, ");
+    }
+    Ok(())
+}
+
+#[test]
+fn scripts_not_built(rt: HostRuntime) -> Result<(), test::Fail> {
     let alloc = rt.alloc();
     let words = words_of(alloc, "run s")?;
     for script in [
         "",
         "\n",
-        "run sourceFile \"a\" | takeE 5 | stdout;\n\n",
-        "run sourceFile \"a\" | takeE 5 | stdout; ",
-        " run sourceFile \"a\" | takeE 5 | stdout;",
-        "run  sourceFile \"a\" | takeE 5 | stdout;",
-        "run sourceFile \"a\"| takeE 5 | stdout;",
-        "run sourceFile \"a\" |takeE 5 | stdout;",
-        "run sourceFile \"a\" | takeE 5 | stdout",
-        "run sourceFile a | takeE 5 | stdout;",
-        "run sourceFile \"\" | takeE 5 | stdout;",
-        "run sourceFile \"a b\" | takeE 5 | stdout;",
-        "run sourceFile \"a\"\" | takeE 5 | stdout;",
-        "run sourceFile \"é\" | takeE 5 | stdout;",
-        "run sourceFile \"a\" | takeE  | stdout;",
-        "run sourceFile \"a\" | takeE 05 | stdout;",
-        "run sourceFile \"a\" | takeE 00 | stdout;",
-        "run sourceFile \"a\" | takeE +5 | stdout;",
-        "run sourceFile \"a\" | takeE 65537 | stdout;",
-        "run sourceFile \"a\" | takeE 18446744073709551616 | stdout;",
-        "run sourceFile \"aaaaaaaaaaaaaaaaaaaaaaaaaaaaaaaaaaaaaaaaaaaaaaaaaaaaaaaaaaaaaaaaa\" | takeE 5 | stdout;",
+        "# nothing\n",
+        "run stdin | takeE 5 | stdout;",
+        "run sourceFile \"a\" | take 5 | stdout;",
+        "run sourceFile \"a\" | takeE 5 | sinkFile \"b\";",
+        "run sourceFile \"a\" |= takeE 5 |= stdout;",
+        "run sourceFile \"a\" | (takeE 5 | stdout);",
+        "run sourceFile \"a\" | stdout;",
+        "run sourceFile \"a\" | takeE 5 | passE | stdout;",
+        "run sourceFile \"a\" | takeE 5 | stdout; run sourceFile \"a\" | takeE 5 | stdout;",
+        "let s = seal sourceFile \"a\";",
     ] {
         let mut world = world_of(alloc, script, "hello", 0)?;
         let outcome = conduit_main(alloc, &words, &mut world);
@@ -244,33 +365,56 @@ fn other_scripts(rt: HostRuntime) -> Result<(), test::Fail> {
     Ok(())
 }
 
+/// The form in other spellings, and with the greatest count.
 #[test]
-fn longest_forms(rt: HostRuntime) -> Result<(), test::Fail> {
+fn other_spellings(rt: HostRuntime) -> Result<(), test::Fail> {
     let alloc = rt.alloc();
     let words = words_of(alloc, "run s")?;
-    let script =
-        "run sourceFile \"aaaaaaaaaaaaaaaaaaaaaaaaaaaaaaaaaaaaaaaaaaaaaaaaaaaaaaaaaaaaaaaa\" | takeE 65536 | stdout;\n";
-    let mut world = world_of(alloc, script, "hello", 0)?;
-    let outcome = conduit_main(alloc, &words, &mut world);
-    assert_eq!(rt; outcome.cause, Cause::OutsideFault);
-    assert_eq!(rt;
-        calls_of(alloc, &world)?.as_str(),
-        "open s, end, close, open failed, "
-    );
+    for (script, output) in [
+        ("run   sourceFile \"a\"|takeE 5|stdout ;", "hello"),
+        (
+            "# five bytes\nrun\tsourceFile \"a\" # of a\r\n | takeE 5\n | stdout;",
+            "hello",
+        ),
+        (
+            "run (sourceFile \"\\u{61}\" | (takeE 5) | stdout);",
+            "hello",
+        ),
+        (
+            "run sourceFile \"a\" | takeE 18446744073709551615 | stdout;",
+            "hello world",
+        ),
+    ] {
+        let mut world = world_of(alloc, script, "hello world", 3)?;
+        let outcome = conduit_main(alloc, &words, &mut world);
+        assert_eq!(rt; outcome.cause, Cause::Success, "{script}");
+        assert!(rt; has_output(&world, output), "{script}");
+    }
     Ok(())
 }
 
-#[test]
-fn long_script(rt: HostRuntime) -> Result<(), test::Fail> {
-    let alloc = rt.alloc();
-    let words = words_of(alloc, "run s")?;
+/// The form with this many bytes in all, the last of them newlines.
+fn long_form(alloc: Global, size: usize) -> Result<String, AllocError> {
     let mut script = String::from_str(alloc, ROW)?;
-    for _ in ROW.len()..257 {
+    for _ in ROW.len()..size {
         script.push_str("\n")?;
     }
+    Ok(script)
+}
+
+#[test]
+fn longest_scripts(rt: HostRuntime) -> Result<(), test::Fail> {
+    let alloc = rt.alloc();
+    let words = words_of(alloc, "run s")?;
+    let script = long_form(alloc, 65_536)?;
     let mut world = world_of(alloc, script.as_str(), "hello", 0)?;
     let outcome = conduit_main(alloc, &words, &mut world);
-    assert_eq!(rt; outcome.cause, Cause::NotBuilt);
+    assert_eq!(rt; outcome.cause, Cause::Success);
+    let script = long_form(alloc, 65_537)?;
+    let mut world = world_of(alloc, script.as_str(), "hello", 0)?;
+    let outcome = conduit_main(alloc, &words, &mut world);
+    assert_eq!(rt; outcome.cause, Cause::ScriptLimit);
+    assert_eq!(rt; outcome.status, 4);
     assert_eq!(rt; calls_of(alloc, &world)?.as_str(), "open s, close, ");
     Ok(())
 }

@@ -12,10 +12,10 @@ returns-in-Ok-clause-log g c = λ tells. script_logs c.args.script.now _ c.in-Ok
 
 pub returns-in-Err-clause-files : goal.returns-in-Err-clause-files
 returns-in-Err-clause-files g c = λ tells.
-    subst (λ (cause : Cause). Sent (SendsScript (g.W.World.files c.args.world.now).contents c.args.script.now cause) (g.W.World.files c.args.world.now) (g.W.World.files c.read_script.new.world)) (sym c.from.ensures)
+    subst (λ (cause : Cause). Sent (SendsScript (g.W.World.files c.args.world.now).contents c.args.script.now cause) (g.W.World.files c.args.world.now) (g.W.World.files c.read_script.new.world)) (sym c.script_cause.ensures)
     (unread_sends c.args.script.now _ c.in-Err.error _ _ (c.in-Err.ensures.files tells))
 
 pub returns-in-Err-clause-log : goal.returns-in-Err-clause-log
 returns-in-Err-clause-log g c = λ tells.
-    subst (λ (cause : Cause). Called (ReadsAndJudges c.args.script.now cause) (g.W.World.log c.args.world.now) (g.W.World.log c.read_script.new.world)) (sym c.from.ensures)
+    subst (λ (cause : Cause). Called (ReadsAndJudges c.args.script.now cause) (g.W.World.log c.args.world.now) (g.W.World.log c.read_script.new.world)) (sym c.script_cause.ensures)
     (unread_logs c.args.script.now _ c.in-Err.error _ _ (c.in-Err.ensures.log tells))

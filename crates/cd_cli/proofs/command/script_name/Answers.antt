@@ -1,7 +1,7 @@
-use Rattle.std.proofs.Common.{◌≡◌, ◌∷◌, [], ℕ, List, length, sym, ◌∙◌, ap, ap₂, arith, map, codes}
+use Rattle.std.proofs.Common.{◌≡◌, ◌∷◌, [], ℕ, List, length, sym, ◌∙◌, ap, ap₂, subst, arith, map, codes}
 use Rattle.std.specs.String.{string_bytes}
-use Rattle.std.proofs.lemmas.Bool.Decides.{nat_tests}
 use Rattle.std.proofs.lemmas.Slice.Eq.{bytes_eq-Decides}
+use Rattle.cd_cli.specs.Command.{IsScriptName}
 use Rattle.cd_cli.proofs.CommandSteps.{two_members}
 use Rattle.cd_cli.proofs.command.script_name.Goals as goal
 
@@ -11,7 +11,5 @@ returns-in-len2-clause-named c =
     let command : string_bytes c.command-item.result ≡ codes "run" = sym c.as_str.ensures.value ∙ (bytes_eq-Decides c.as_str.result.now (codes "run")).0 (sym c.if-eq.ensures) in
     record {
       words_are = ap (map string_bytes) two ∙ ap₂ (λ (a b : List ℕ). a ∷ b ∷ []) command (sym c.as_str-in-len2.ensures.value);
-      some = λ none.
-          let empty : length (string_bytes c.script-item.result) ≡ 0 = ap length (sym c.as_str-in-len2.ensures.value ∙ none) in
-          grind (arith, nat_tests, empty, c.script-item.result.bytes.ok, c.if-not-is_empty.ensures);
+      name = subst IsScriptName (c.as_str-then-eq.ensures.value ∙ sym c.as_str-in-len2.ensures.value) (c.is_script_name.ensures.0 c.if-is_script_name.true);
     }

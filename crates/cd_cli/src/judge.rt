@@ -1,0 +1,26 @@
+// Judging the bytes of a script.
+ghost use Rattle.cd_cli.specs.Judge.{Judged};
+
+use crate::cause::Cause;
+use cd_elem::Script;
+use cd_script::parse;
+use simdutf8::compat;
+use std::alloc::Global;
+
+/// How many bytes a script has at most.
+const SCRIPT_MAX: usize = 65_536;
+
+/// The tree of a script's bytes, or why they have none: they are too many, no UTF-8, or no script.
+pub fn judge(alloc: Global, text: &[u8]) -> Result<Script, Cause>
+    ensures { Judged text.now result }
+{
+    if text.len() > SCRIPT_MAX {
+        return Err(Cause::ScriptLimit);
+    }
+    match compat::from_utf8(text) {
+        Ok(text) => Ok(parse(alloc, text)?),
+        Err(error) => Err(Cause::ScriptText {
+            at: error.valid_up_to() as u32,
+        }),
+    }
+}

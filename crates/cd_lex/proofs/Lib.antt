@@ -1,0 +1,9 @@
+pub mod Closing
+pub mod Digits
+pub mod Finds
+pub mod Fronts
+pub mod Gaps
+pub mod Longest
+pub mod Nexts
+pub mod Quoting
+pub mod Utf8

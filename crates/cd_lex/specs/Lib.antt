@@ -1,0 +1,4 @@
+pub mod Looking
+pub mod Quotes
+pub mod Scanner
+pub mod Table

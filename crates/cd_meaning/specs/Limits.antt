@@ -1,0 +1,128 @@
+-- The limits of tokens, depth, literals and numbers.
+use Rattle.std.specs.Prelude.{ℕ, ◌+◌, ◌-◌, ◌^◌, Bool, true, false, ◌&&◌, ◌||◌, nat_lt, if◌then◌else◌, List, [], ◌∷◌, length, take, drop, Option, Some, None, ◌≡◌}
+use Rattle.std.specs.List.{fold}
+use Rattle.cd_elem.specs.declared.token.CountedWord.{CountedWord}
+use Rattle.cd_elem.specs.declared.token.CountedWord.TheVariants as counted
+use Rattle.cd_elem.specs.declared.token.Keyword.{Keyword}
+use Rattle.cd_elem.specs.declared.token.Keyword.TheVariants as keyword
+use Rattle.cd_elem.specs.declared.token.Sign.{Sign}
+use Rattle.cd_elem.specs.declared.token.Sign.TheVariants as sign
+use Rattle.cd_elem.specs.declared.token.Token.{Token}
+use Rattle.cd_elem.specs.declared.token.Token.TheVariants as token
+use Rattle.cd_elem.specs.declared.token.LimitKind.{LimitKind}
+use Rattle.cd_elem.specs.declared.token.LimitKind.TheVariants.{Tokens, Depth, Literal, Number}
+
+-- the numbers that may stand in a place, both ends included
+pub record Bounds : Type 0 where
+  pub least : ℕ
+  pub most : ℕ
+
+abbrev pub bounds : ℕ → ℕ → Bounds
+bounds least most = record { least = least; most = most }
+
+abbrev pub every_number : Bounds
+every_number = bounds 0 (2 ^ 64 - 1)
+
+-- of times that something is repeated, of lengths of pieces, of things collected, and of bytes
+abbrev pub times : Bounds
+times = bounds 0 4096
+
+abbrev pub lengths : Bounds
+lengths = bounds 1 65536
+
+abbrev pub collected : Bounds
+collected = bounds 0 16777216
+
+abbrev pub bytes : Bounds
+bytes = bounds 0 255
+
+abbrev pub copies : Bounds
+copies = bounds 0 1099511627776
+
+abbrev pub counted_bounds : CountedWord → Bounds
+counted_bounds counted.TakeE = every_number
+counted_bounds counted.RepeatE = times
+counted_bounds counted.DropE = every_number
+counted_bounds counted.CollectE = collected
+counted_bounds counted.Take = every_number
+counted_bounds counted.Repeat = times
+counted_bounds counted.Drop = every_number
+counted_bounds counted.Collect = collected
+counted_bounds counted.Lines = lengths
+counted_bounds counted.Exact = lengths
+counted_bounds counted.ChunksOf = lengths
+
+abbrev pub keyword_bounds : Keyword → Bounds
+keyword_bounds (keyword.Counted w) = counted_bounds w
+keyword_bounds (keyword.NumberMap m) = bytes
+keyword_bounds keyword.Replicate = copies
+keyword_bounds _ = every_number
+
+-- The numbers that may stand behind this token. A literal has a number behind it only in `split`.
+abbrev pub bounds_behind : Token → Bounds
+bounds_behind (token.Word k) = keyword_bounds k
+bounds_behind (token.Text s) = lengths
+bounds_behind _ = every_number
+
+abbrev pub bounds_after : List Token → Bounds
+bounds_after ts = fold (λ _ t. bounds_behind t) every_number ts
+
+abbrev pub sign_brackets : ℕ → Sign → ℕ
+sign_brackets n sign.OpenBrace = n + 1
+sign_brackets n sign.OpenParen = n + 1
+sign_brackets n sign.OpenSquare = n + 1
+sign_brackets n sign.CloseBrace = n - 1
+sign_brackets n sign.CloseParen = n - 1
+sign_brackets n sign.CloseSquare = n - 1
+sign_brackets n _ = n
+
+abbrev pub brackets_with : ℕ → Token → ℕ
+brackets_with n (token.Sign s) = sign_brackets n s
+brackets_with n _ = n
+
+-- how many brackets these tokens leave open
+abbrev pub open_brackets : List Token → ℕ
+open_brackets ts = fold brackets_with 0 ts
+
+abbrev pub opens : Sign → Bool
+opens sign.OpenBrace = true
+opens sign.OpenParen = true
+opens sign.OpenSquare = true
+opens _ = false
+
+abbrev pub is_opening : Token → Bool
+is_opening (token.Sign s) = opens s
+is_opening _ = false
+
+abbrev pub is_too_long : Token → Bool
+is_too_long (token.Text s) = nat_lt 4096 (length s)
+is_too_long (token.Named n) = nat_lt 64 (length n)
+is_too_long _ = false
+
+abbrev pub is_outside : Bounds → Token → Bool
+is_outside r (token.Number None) = true
+is_outside r (token.Number (Some n)) = nat_lt n r.least || nat_lt r.most n
+is_outside r _ = false
+
+-- the first limit that a token passes, behind so many tokens and open brackets
+abbrev pub limit_of : ℕ → ℕ → Bounds → Token → Option LimitKind
+limit_of count open_now r t =
+    if nat_lt 8191 count then Some Tokens
+    else (if nat_lt 31 open_now && is_opening t then Some Depth
+    else (if is_too_long t then Some Literal
+    else (if is_outside r t then Some Number else None)))
+
+-- the same, behind these tokens
+abbrev pub limit_behind : List Token → Token → Option LimitKind
+limit_behind ts t = limit_of (length ts) (open_brackets ts) (bounds_after ts) t
+
+abbrev pub limit_here : List Token → List Token → Option LimitKind
+limit_here before [] = None
+limit_here before (t ∷ rest) = limit_behind before t
+
+-- the limit that the token at i passes, if it passes one
+abbrev pub limit_at : List Token → ℕ → Option LimitKind
+limit_at ts i = limit_here (take i ts) (drop i ts)
+
+abbrev pub IsWithinLimits : List Token → Type 0
+IsWithinLimits ts = (i : ℕ) → limit_at ts i ≡ None

@@ -1,0 +1,64 @@
+-- The values of literals.
+use Rattle.std.specs.Prelude.{ℕ, ◌+◌, ◌-◌, ◌*◌, ◌==◌, nat_lt, nat_le, ◌&&◌, if◌then◌else◌, List, [], ◌∷◌, ◌++◌, Option, Some, None, encode_utf8}
+use Rattle.std.specs.Char.{is_ascii_digit}
+use lib.Utf8.{scalar}
+
+-- the value of a hexadecimal digit
+abbrev pub hex_value : ℕ → Option ℕ
+hex_value c =
+    if is_ascii_digit c then Some (c - 48)
+    else (if nat_le 97 c && nat_le c 102 then Some (c - 87)
+    else (if nat_le 65 c && nat_le c 70 then Some (c - 55) else None))
+
+-- the byte that a short escape stands for
+abbrev pub short_escape : ℕ → Option ℕ
+short_escape c =
+    if c == 92 then Some 92
+    else (if c == 34 then Some 34
+    else (if c == 110 then Some 10
+    else (if c == 114 then Some 13
+    else (if c == 116 then Some 9 else None))))
+
+abbrev pub in_front : List ℕ → Option (List ℕ) → Option (List ℕ)
+in_front front None = None
+in_front front (Some value) = Some (front ++ value)
+
+abbrev pub no_more : List ℕ → Option (List ℕ)
+no_more [] = Some []
+no_more (c ∷ cs) = None
+
+-- behind a byte that is no quote and no newline, if it begins no escape
+abbrev pub short_or : Option ℕ → Option (List ℕ) → Option (List ℕ) → Option (List ℕ)
+short_or None rest other = other
+short_or (Some b) rest other = in_front (b ∷ []) rest
+
+-- one more digit of a number of at most six, or none of it
+abbrev pub digit_or : Option ℕ → (ℕ → Option (List ℕ)) → Option (List ℕ)
+digit_or None more = None
+digit_or (Some d) more = more d
+
+abbrev mutual
+  -- The value of a literal, where these bytes stand behind its opening quote and the closing one is the last of them.
+  pub inside : List ℕ → Option (List ℕ)
+  inside [] = None
+  inside (c ∷ cs) =
+      if c == 34 then no_more cs
+      else (if c == 92 then escaped cs
+      else (if c == 10 then None else in_front (c ∷ []) (inside cs)))
+
+  -- behind a backslash
+  pub escaped : List ℕ → Option (List ℕ)
+  escaped [] = None
+  escaped (c ∷ cs) = short_or (short_escape c) (inside cs) (if c == 117 then braced cs else None)
+
+  -- behind `\u`
+  pub braced : List ℕ → Option (List ℕ)
+  braced [] = None
+  braced (c ∷ cs) = if c == 123 then digits 0 0 cs else None
+
+  -- behind `\u{` and so many digits of this value
+  pub digits : ℕ → ℕ → List ℕ → Option (List ℕ)
+  digits count value [] = None
+  digits count value (c ∷ cs) =
+      if c == 125 then (if nat_lt 0 count && scalar value then in_front (encode_utf8 value) (inside cs) else None)
+      else (if nat_lt count 6 then digit_or (hex_value c) (λ d. digits (count + 1) (value * 16 + d) cs) else None)

@@ -1,0 +1,10 @@
+pub mod Alone
+pub mod Complete
+pub mod Finish
+pub mod Forms
+pub mod Fronts
+pub mod Loop
+pub mod Rows
+pub mod Single
+pub mod Stands
+pub mod Turning

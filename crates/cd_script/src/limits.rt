@@ -1,0 +1,158 @@
+// Limits on the tokens.
+ghost use Rattle.std.specs.Prelude.{◌≡◌, ◌≤◌, ◌+◌};
+ghost use Rattle.cd_meaning.specs.Limits as spec;
+ghost use Rattle.cd_script.specs.Reading.{bounds_of};
+
+use cd_elem::{CountedWord, Keyword, LimitKind, Sign, Token};
+
+/// The numbers that may stand in a place, both ends included.
+#[derive(Clone, Copy, Debug)]
+pub struct Bounds {
+    pub least: u64,
+    pub most: u64,
+}
+
+pub fn every_number() -> Bounds
+    ensures { bounds_of result ≡ spec.every_number }
+{
+    Bounds {
+        least: 0,
+        most: u64::MAX,
+    }
+}
+
+fn up_to(most: u64) -> Bounds
+    ensures { bounds_of result ≡ spec.bounds 0 most }
+{
+    Bounds { least: 0, most }
+}
+
+fn lengths() -> Bounds
+    ensures { bounds_of result ≡ spec.lengths }
+{
+    Bounds {
+        least: 1,
+        most: 65_536,
+    }
+}
+
+fn counted_bounds(word: CountedWord) -> Bounds
+    ensures { bounds_of result ≡ spec.counted_bounds word }
+{
+    match word {
+        CountedWord::TakeE => every_number(),
+        CountedWord::RepeatE => up_to(4096),
+        CountedWord::DropE => every_number(),
+        CountedWord::CollectE => up_to(16_777_216),
+        CountedWord::Take => every_number(),
+        CountedWord::Repeat => up_to(4096),
+        CountedWord::Drop => every_number(),
+        CountedWord::Collect => up_to(16_777_216),
+        CountedWord::Lines => lengths(),
+        CountedWord::Exact => lengths(),
+        CountedWord::ChunksOf => lengths(),
+    }
+}
+
+fn keyword_bounds(word: Keyword) -> Bounds
+    ensures { bounds_of result ≡ spec.keyword_bounds word }
+{
+    match word {
+        Keyword::Counted(word) => counted_bounds(word),
+        Keyword::NumberMap(_) => up_to(255),
+        Keyword::Replicate => up_to(1_099_511_627_776),
+        _ => every_number(),
+    }
+}
+
+/// The numbers that may stand behind this token.
+pub fn bounds_behind(token: &Token) -> Bounds
+    ensures { bounds_of result ≡ spec.bounds_behind token.now }
+{
+    match token {
+        Token::Word(word) => keyword_bounds(*word),
+        Token::Text(_) => lengths(),
+        _ => every_number(),
+    }
+}
+
+fn sign_brackets(opened: usize, sign: Sign) -> usize
+    requires { opened + 1 ≤ usize.MAX }
+    ensures value { result ≡ spec.sign_brackets opened sign }
+    ensures within { result ≤ opened + 1 }
+{
+    match sign {
+        Sign::OpenBrace | Sign::OpenParen | Sign::OpenSquare => opened + 1,
+        Sign::CloseBrace | Sign::CloseParen | Sign::CloseSquare => opened.saturating_sub(1),
+        _ => opened,
+    }
+}
+
+/// How many brackets are open behind this token.
+pub fn brackets_with(opened: usize, token: &Token) -> usize
+    requires { opened + 1 ≤ usize.MAX }
+    ensures value { result ≡ spec.brackets_with opened token.now }
+    ensures within { result ≤ opened + 1 }
+{
+    match token {
+        Token::Sign(sign) => sign_brackets(opened, *sign),
+        _ => opened,
+    }
+}
+
+fn opens(sign: Sign) -> bool
+    ensures { result ≡ spec.opens sign }
+{
+    match sign {
+        Sign::OpenBrace | Sign::OpenParen | Sign::OpenSquare => true,
+        _ => false,
+    }
+}
+
+fn is_opening(token: &Token) -> bool
+    ensures { result ≡ spec.is_opening token.now }
+{
+    match token {
+        Token::Sign(sign) => opens(*sign),
+        _ => false,
+    }
+}
+
+fn is_too_long(token: &Token) -> bool
+    ensures { result ≡ spec.is_too_long token.now }
+{
+    match token {
+        Token::Text(text) => text.as_str().len() > 4096,
+        Token::Named(name) => name.as_str().len() > 64,
+        _ => false,
+    }
+}
+
+fn is_outside(bounds: Bounds, token: &Token) -> bool
+    ensures { result ≡ spec.is_outside (bounds_of bounds) token.now }
+{
+    match token {
+        Token::Number(None) => true,
+        Token::Number(Some(number)) => *number < bounds.least || *number > bounds.most,
+        _ => false,
+    }
+}
+
+/// The first limit that this token passes, behind so many tokens and open brackets.
+pub fn limit_of(count: usize, opened: usize, bounds: Bounds, token: &Token) -> Option<LimitKind>
+    ensures { result ≡ spec.limit_of count opened (bounds_of bounds) token.now }
+{
+    if count >= 8192 {
+        return Some(LimitKind::Tokens);
+    }
+    if opened >= 32 && is_opening(token) {
+        return Some(LimitKind::Depth);
+    }
+    if is_too_long(token) {
+        return Some(LimitKind::Literal);
+    }
+    if is_outside(bounds, token) {
+        return Some(LimitKind::Number);
+    }
+    None
+}

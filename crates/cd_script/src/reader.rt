@@ -1,0 +1,114 @@
+// From tokens to the tree.
+ghost use Rattle.std.specs.Prelude.{◌≡◌, List, ◌+◌, ◌≤◌, IfOk, true};
+ghost use Rattle.cd_elem.specs.declared.script.Stmt.{Stmt};
+ghost use Rattle.cd_meaning.specs.Grammar.{IsScript};
+ghost use Rattle.cd_meaning.specs.Limits.{IsWithinLimits, every_number};
+ghost use Rattle.cd_meaning.specs.Refusals.{tokens};
+ghost use Rattle.cd_script.specs.Answers.{Answers, Gives};
+ghost use Rattle.cd_script.specs.Machine.{start};
+ghost use Rattle.cd_script.specs.Reading.{Reads, bounds_of, ending, is_between};
+
+use crate::limits::{Bounds, bounds_behind, brackets_with, every_number, limit_of};
+use crate::machine::step;
+use crate::refusal::ScriptRefusal;
+use crate::state::{Place, State};
+use cd_elem::{Items, Lexeme, NoMemory, Script};
+use std::alloc::Global;
+
+/// The parser behind some tokens.
+#[derive(Debug, Drop)]
+struct Reader {
+    state: State,
+    opened: usize,
+    bounds: Bounds,
+}
+
+/// One more token, behind so many.
+fn read(
+    alloc: Global,
+    reader: Reader,
+    count: usize,
+    lexeme: &Lexeme,
+) -> Result<Reader, ScriptRefusal>
+    requires room { count + 1 ≤ usize.MAX }
+    requires opened { reader.opened ≤ count }
+    ensures reads { Reads reader count lexeme.now result }
+    ensures opened { IfOk result (λ new. new.opened ≤ count + 1) }
+{
+    let Reader {
+        state,
+        opened,
+        bounds,
+    } = reader;
+    let at = lexeme.at;
+    match step(alloc, state, &lexeme.token) {
+        Err(NoMemory) => Err(ScriptRefusal::NoMemory),
+        Ok(None) => Err(ScriptRefusal::Syntax { at }),
+        Ok(Some(state)) => match limit_of(count, opened, bounds, &lexeme.token) {
+            Some(which) => Err(ScriptRefusal::Limit { which, at }),
+            None => Ok(Reader {
+                state,
+                opened: brackets_with(opened, &lexeme.token),
+                bounds: bounds_behind(&lexeme.token),
+            }),
+        },
+    }
+}
+
+fn begun(alloc: Global) -> Reader
+    ensures state { result.state ≡ start }
+    ensures opened { result.opened ≡ 0 }
+    ensures bounds { bounds_of result.bounds ≡ every_number }
+{
+    Reader {
+        state: State {
+            statements: Items::new(alloc),
+            place: Place::Between,
+        },
+        opened: 0,
+        bounds: every_number(),
+    }
+}
+
+fn is_between(place: &Place) -> bool
+    ensures { result ≡ is_between place.now }
+{
+    match place {
+        Place::Between => true,
+        _ => false,
+    }
+}
+
+fn ending(reader: Reader, whole: bool, end: u32) -> Result<Script, ScriptRefusal>
+    ensures { result ≡ ending reader.state whole end }
+{
+    let Reader { state, .. } = reader;
+    let State { statements, place } = state;
+    if whole && is_between(&place) {
+        Ok(Script::new(statements))
+    } else {
+        Err(ScriptRefusal::Syntax { at: end })
+    }
+}
+
+/// The tree of these tokens. They are those of the whole text, which ends at `end`, or of what stands before `end`,
+/// where no token begins.
+pub fn parse_tokens(
+    alloc: Global,
+    lexemes: &[Lexeme],
+    whole: bool,
+    end: u32,
+) -> Result<Script, ScriptRefusal>
+    ensures exact { Answers lexemes.now whole end result }
+    ensures only { (tree : List Stmt) → whole ≡ true → IsScript (tokens lexemes.now) tree
+        → IsWithinLimits (tokens lexemes.now) → Gives tree result }
+{
+    let mut reader = begun(alloc);
+    for (count, lexeme) in lexemes.iter().enumerate() {
+        match read(alloc, reader, count, lexeme) {
+            Ok(next) => reader = next,
+            Err(refusal) => return Err(refusal),
+        }
+    }
+    ending(reader, whole, end)
+}

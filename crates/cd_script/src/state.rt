@@ -1,0 +1,149 @@
+// What the parser remembers of the tokens before.
+use crate::stack::Stack;
+use cd_elem::{
+    ClassedWord, CountedWord, EndMap, EndTest, FileWord, Join, ListWord, Literal, LiteralList,
+    LiteralWord, Name, NumberMap, Opening, Pipe, PipeList, Section, StmtList, TestedWord, Word,
+    Zip,
+};
+
+/// What a statement does with its pipe.
+#[derive(Debug, Drop)]
+pub enum Owner {
+    Run,
+    Seal(Name),
+    Feed(Name),
+    CloseSeal(Name),
+}
+
+/// The members of a pipe so far, each with the operator behind it.
+#[derive(Debug, Drop)]
+pub enum Chain {
+    Alone,
+    Joined(Join, PipeList),
+}
+
+/// What stands before a pipe in braces.
+#[derive(Debug, Drop)]
+pub enum Block {
+    Counts(Section, Option<u64>),
+    LineE,
+    Mark(Literal),
+}
+
+/// An open bracket, with the pipes that ended in it.
+#[derive(Debug, Drop)]
+pub enum Frame {
+    Parens,
+    Braces(PipeList),
+    Block(Block),
+    Tee,
+    ZipFirst(Zip),
+    ZipSecond(Zip, Pipe),
+}
+
+/// An open bracket, and the pipe that it stands in.
+#[derive(Debug, Drop)]
+pub struct Level {
+    pub frame: Frame,
+    pub outer: Chain,
+}
+
+/// The front of a word or of a form. A `bool` says whether a `not` stands in it.
+#[derive(Debug, Drop)]
+pub enum Head {
+    Counted(CountedWord),
+    Classed(ClassedWord),
+    ClassedNot(ClassedWord),
+    Is(ClassedWord, bool),
+    Below(ClassedWord, bool),
+    Tested(TestedWord),
+    TestedNot(TestedWord),
+    AtEnd(TestedWord, bool, EndTest),
+    Shorter(TestedWord, bool),
+    MapE,
+    NumberMap(NumberMap),
+    Map,
+    EndMap(EndMap),
+    Literal(LiteralWord),
+    File(FileWord),
+    Split,
+    SplitAt(char),
+    List(ListWord),
+    ListOpen(ListWord),
+    ListEnded(ListWord, LiteralList),
+    ListGoes(ListWord, LiteralList),
+    Replicate,
+    Replicated(Option<u64>),
+    Range,
+    RangeFrom(Option<u64>),
+    Section(Section),
+    Mark,
+    Block(Block),
+    Tee,
+    Zip(Zip),
+}
+
+/// What the next token has to go on with.
+#[derive(Debug, Drop)]
+pub enum Need {
+    /// A part.
+    Part,
+    /// The rest of a word or of a form's front.
+    Further(Head),
+    /// What may stand behind a part.
+    Ended(Pipe),
+    /// The literal behind the two pipes of `zipSource`.
+    ZipText(Pipe, Pipe),
+    /// The bracket behind that.
+    ZipEnd(Pipe, Pipe, Literal),
+}
+
+/// Where in a pipe the parser stands.
+#[derive(Debug, Drop)]
+pub struct Inside {
+    pub owner: Owner,
+    pub levels: Stack<Level>,
+    pub chain: Chain,
+    pub need: Need,
+}
+
+/// Where in a statement the parser stands.
+#[derive(Debug, Drop)]
+pub enum Place {
+    Between,
+    Opened(Opening),
+    Named(Opening, Name),
+    /// Behind `let NAME =`.
+    Sealing(Name),
+    /// Behind `hold NAME =`.
+    Holding(Name),
+    /// Behind `hold NAME = mark`.
+    Marking(Name),
+    /// Behind `hold NAME = mark FILE`.
+    Marked(Name, Literal),
+    Inside(Inside),
+}
+
+/// The statements that have ended, and the place in the next one.
+#[derive(Debug, Drop)]
+pub struct State {
+    pub statements: StmtList,
+    pub place: Place,
+}
+
+/// What a token makes of the front of a word or of a form.
+#[derive(Debug, Drop)]
+pub enum Turn {
+    Goes(Head),
+    Ends(Word),
+    Opens(Frame),
+}
+
+/// What a sign makes of the innermost bracket, where a pipe has ended in it.
+#[derive(Debug, Drop)]
+pub enum Exit {
+    Stays(Frame),
+    Closes(Pipe),
+    /// The two pipes of `zipSource`, with a comma behind each.
+    Asks(Pipe, Pipe),
+}
