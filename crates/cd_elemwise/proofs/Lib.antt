@@ -1,0 +1,4 @@
+pub mod PlanLaws
+pub mod StageLaws
+pub mod WordReads
+pub mod WordScans

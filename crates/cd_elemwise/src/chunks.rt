@@ -1,0 +1,162 @@
+// What is done with a chunk of a cut stream.
+ghost use Rattle.std.specs.Prelude.{◌≡◌, ◌+◌, ◌-◌, ◌*◌, ◌<◌, ◌≤◌, ℕ, IfOk, IsTrue, length, map, filter, take, drop, replicate, sum, get_or};
+ghost use Rattle.std.specs.List.{prefix_len, flat_map};
+ghost use Rattle.cd_elem.specs.Chunks.{is_cut};
+ghost use Rattle.cd_elem.specs.declared.kind.Sort.TheVariants as sort;
+ghost use Rattle.cd_meaning.specs.Classes.{is_in_class, element_mapped};
+ghost use Rattle.cd_meaning.specs.Words.{as_count};
+ghost use Rattle.cd_elemwise.specs.Words.{IsElements, MapFits, IsChunkOf, single_of};
+
+use crate::element::Element;
+use crate::slice::{front, mapped, passing, repeated, sum_behind};
+use crate::state::Single;
+use cd_elem::{ByteMap, Chunk, Class, Items, NoMemory};
+use std::alloc::Global;
+
+/// The elements of a chunk.
+pub enum Elements<'a> {
+    Bytes(&'a [u8]),
+    Chars(&'a [char]),
+}
+
+pub fn elements_of(chunk: &Chunk) -> Elements<'_>
+    requires { IsTrue (is_cut chunk.now.0) }
+    ensures { IsElements result chunk.now }
+{
+    match chunk.as_bytes() {
+        Some(bytes) => Elements::Bytes(bytes),
+        None => match chunk.as_chars() {
+            Some(chars) => Elements::Chars(chars),
+            None => unreachable!(),
+        },
+    }
+}
+
+/// How many elements stand before the first that is not in the class.
+pub fn front_of(class: Class, chunk: &Chunk) -> usize
+    requires { IsTrue (is_cut chunk.now.0) }
+    ensures value { result ≡ prefix_len (is_in_class class) chunk.now.1 }
+    ensures within { result ≤ length chunk.now.1 }
+{
+    match elements_of(chunk) {
+        Elements::Bytes(bytes) => front(class, bytes),
+        Elements::Chars(chars) => front(class, chars),
+    }
+}
+
+fn some_chunk<T: Element>(list: Items<T>) -> Option<Chunk>
+    requires { length list ≤ 65536 }
+    ensures { IsChunkOf T.sort (map T.number list) result }
+{
+    if list.is_empty() {
+        None
+    } else {
+        Some(T::chunk_of(list))
+    }
+}
+
+/// Those in the class, None where there is none.
+pub fn passing_of(alloc: Global, class: Class, chunk: &Chunk) -> Result<Option<Chunk>, NoMemory>
+    requires { IsTrue (is_cut chunk.now.0) }
+    ensures { IfOk result (IsChunkOf chunk.now.0 (filter (is_in_class class) chunk.now.1)) }
+{
+    let some = chunk.len();
+    match elements_of(chunk) {
+        Elements::Bytes(bytes) => {
+            let list = passing(alloc, class, bytes)?;
+            Ok(some_chunk(list))
+        }
+        Elements::Chars(chars) => {
+            let list = passing(alloc, class, chars)?;
+            Ok(some_chunk(list))
+        }
+    }
+}
+
+/// What the map makes of each.
+pub fn mapped_of(alloc: Global, by: ByteMap, chunk: &Chunk) -> Result<Chunk, NoMemory>
+    requires { MapFits by chunk.now.0 }
+    ensures { IfOk result (λ made. made ≡ (chunk.now.0, map (element_mapped by) chunk.now.1)) }
+{
+    let some = chunk.len();
+    match elements_of(chunk) {
+        Elements::Bytes(bytes) => {
+            let list = mapped(alloc, by, bytes)?;
+            Ok(u8::chunk_of(list))
+        }
+        Elements::Chars(chars) => {
+            let list = mapped(alloc, by, chars)?;
+            Ok(char::chunk_of(list))
+        }
+    }
+}
+
+/// The first `count` elements, each so many times.
+pub fn repeated_of(
+    alloc: Global,
+    times: usize,
+    count: usize,
+    chunk: &Chunk,
+) -> Result<Chunk, NoMemory>
+    requires cut { IsTrue (is_cut chunk.now.0) }
+    requires some { 0 < times }
+    requires first { 0 < count }
+    requires within { count ≤ length chunk.now.1 }
+    requires most { count * times ≤ 65536 }
+    ensures { IfOk result (λ made. made ≡ (chunk.now.0, flat_map (λ x. replicate times x) (take count chunk.now.1))) }
+{
+    match elements_of(chunk) {
+        Elements::Bytes(bytes) => {
+            let list = repeated(alloc, times, &bytes[..count])?;
+            Ok(u8::chunk_of(list))
+        }
+        Elements::Chars(chars) => {
+            let list = repeated(alloc, times, &chars[..count])?;
+            Ok(char::chunk_of(list))
+        }
+    }
+}
+
+/// The sum of the bytes and of what was before, which stays at the greatest count.
+pub fn sum_of(before: u64, chunk: &Chunk) -> u64
+    requires { chunk.now.0 ≡ sort.Bytes }
+    ensures { result ≡ as_count (before + sum chunk.now.1) }
+{
+    match chunk.as_bytes() {
+        Some(bytes) => sum_behind(before, bytes),
+        None => unreachable!(),
+    }
+}
+
+/// The element at a place.
+pub fn single_at(chunk: &Chunk, place: usize) -> Single
+    requires cut { IsTrue (is_cut chunk.now.0) }
+    requires within { place < length chunk.now.1 }
+    ensures { (d : ℕ) → result ≡ single_of chunk.now.0 (get_or chunk.now.1 place d) }
+{
+    match elements_of(chunk) {
+        Elements::Bytes(bytes) => Single::Byte(bytes[place]),
+        Elements::Chars(chars) => Single::Char(chars[place]),
+    }
+}
+
+/// The last element.
+pub fn last_of(chunk: &Chunk) -> Single
+    requires { IsTrue (is_cut chunk.now.0) }
+    ensures { (d : ℕ) → result ≡ single_of chunk.now.0 (get_or chunk.now.1 (length chunk.now.1 - 1) d) }
+{
+    single_at(chunk, chunk.len() - 1)
+}
+
+/// What stands behind the first `count` elements, None where there is nothing.
+pub fn behind(mut chunk: Chunk, count: usize) -> Option<Chunk>
+    requires cut { IsTrue (is_cut chunk.0) }
+    requires within { count ≤ length chunk.1 }
+    ensures { IsChunkOf chunk.0 (drop count chunk.1) result }
+{
+    if count == chunk.len() {
+        return None;
+    }
+    chunk.skip(count);
+    Some(chunk)
+}

@@ -1,0 +1,16 @@
+//! The element words, each as a stage.
+#![tactic(auto)]
+
+mod chunks;
+mod class;
+mod collect;
+mod element;
+mod plan;
+mod slice;
+mod stage;
+mod state;
+
+pub use stage::{ElemStage, elem_stage};
+
+#[cfg(test)]
+mod tests;

@@ -1,0 +1,84 @@
+// What is done with many elements at a time, in one pass.
+ghost use Rattle.std.specs.Prelude.{◌≡◌, ◌+◌, ◌<◌, ◌≤◌, ℕ, IfOk, OnOk, ◌++◌, length, map, filter, replicate, sum};
+ghost use Rattle.std.specs.List.{prefix_len, flat_map};
+ghost use Rattle.cd_meaning.specs.Classes.{is_in_class, element_mapped};
+ghost use Rattle.cd_meaning.specs.Words.{as_count};
+
+use crate::class::is_in;
+use crate::element::Element;
+use cd_elem::{ByteMap, Class, Items, NoMemory};
+use std::alloc::Global;
+
+/// How many elements stand before the first that is not in the class.
+pub fn front<T: Element>(class: Class, items: &[T]) -> usize
+    ensures value { result ≡ prefix_len (λ x. is_in_class class (T.number x)) items.now }
+    ensures within { result ≤ length items.now }
+{
+    for (place, item) in items.iter().enumerate() {
+        if !is_in(class, item.number()) {
+            return place;
+        }
+    }
+    items.len()
+}
+
+/// Those in the class.
+pub fn passing<T: Element>(alloc: Global, class: Class, items: &[T]) -> Result<Items<T>, NoMemory>
+    ensures { IfOk result (λ list. list ≡ filter (λ x. is_in_class class (T.number x)) items.now) }
+{
+    let mut list = Items::new(alloc);
+    for item in items {
+        if is_in(class, item.number()) && list.push(*item).is_err() {
+            return Err(NoMemory);
+        }
+    }
+    Ok(list)
+}
+
+/// What the map makes of each.
+pub fn mapped<T: Element>(alloc: Global, by: ByteMap, items: &[T]) -> Result<Items<T>, NoMemory>
+    requires { T.has by }
+    ensures { IfOk result (λ list. map T.number list ≡ map (λ x. element_mapped by (T.number x)) items.now) }
+{
+    let mut list = Items::new(alloc);
+    for item in items {
+        if list.push(item.mapped(by)).is_err() {
+            return Err(NoMemory);
+        }
+    }
+    Ok(list)
+}
+
+/// Adds an element so many times.
+fn push_times<T: Element>(list: &mut Items<T>, item: T, times: usize) -> Result<(), NoMemory>
+    ensures { OnOk result (list.new ≡ list.old ++ replicate times item) }
+{
+    for _ in 0..times {
+        if list.push(item).is_err() {
+            return Err(NoMemory);
+        }
+    }
+    Ok(())
+}
+
+/// Each so many times.
+pub fn repeated<T: Element>(alloc: Global, times: usize, items: &[T]) -> Result<Items<T>, NoMemory>
+    ensures { IfOk result (λ list. list ≡ flat_map (λ x. replicate times x) items.now) }
+{
+    let mut list = Items::new(alloc);
+    for item in items {
+        push_times(&mut list, *item, times)?;
+    }
+    Ok(list)
+}
+
+/// The sum of the bytes and of what was before, which stays at the greatest count.
+pub fn sum_behind(before: u64, bytes: &[u8]) -> u64
+    ensures { result ≡ as_count (before + sum bytes.now) }
+{
+    let mut total = before;
+    for byte in bytes {
+        total = total.saturating_add(u64::from(*byte));
+    }
+    total
+}

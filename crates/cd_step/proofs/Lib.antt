@@ -1,0 +1,6 @@
+pub mod Moving
+pub mod Outs
+pub mod Reading
+pub mod Sides
+pub mod Weighing
+pub mod Working
