@@ -4,7 +4,7 @@
 usage: tools/grammar_cases.py OUT
 
 OUT is a folder: outside1.rt, outside2.rt and so on are written there, which `rt fmt` then lays out.
-Each case is a text with the refusal that is expected of it, or `Read` where it has a tree.
+Each case is a text with the refusal that is expected of it, or with the canonical text of its tree.
 """
 
 import json
@@ -12,7 +12,7 @@ import sys
 from pathlib import Path
 
 DATA = Path(__file__).resolve().parent / "cases" / "grammar.jsonl"
-PER_FILE = 75
+PER_FILE = 50
 SHORT = {'"': '\\"', "\\": "\\\\", "\n": "\\n", "\r": "\\r", "\t": "\\t"}
 
 HEAD = """// Texts and answers of an independent implementation, written by tools/grammar_cases.py.
@@ -40,7 +40,7 @@ def quoted(text):
 
 def answer_of(case):
     if "tree" in case:
-        return "Answer::Read"
+        return "Answer::Canonical(%s)" % quoted(case["canonical"])
     if case["refused"] == "Syntax":
         return "Answer::Syntax(%d)" % case["at"]
     return "Answer::Limit(LimitKind::%s, %d)" % (case["refused"][1], case["at"])

@@ -3,14 +3,14 @@ use Rattle.std.proofs.Common.{◌≡◌, ◌⊎◌, inl, inr, ◌≤◌, ◌<◌
 use Rattle.std.specs.Prelude.{IsUtf8, IsErrAnd}
 use Rattle.std.specs.Str.{IsValidUpTo}
 use Rattle.cd_elem.specs.declared.script.Stmt.{Stmt}
-use Rattle.cd_meaning.specs.Refusals.{IsText, IsSyntaxAt, IsLimitAt}
+use Rattle.cd_meaning.specs.Refusals.{IsText}
 use Rattle.cd_script.specs.declared.refusal.ScriptRefusal.{ScriptRefusal}
 use Rattle.cd_script.specs.declared.refusal.ScriptRefusal.TheVariants.{Syntax, Limit, NoMemory}
 use Rattle.cd_script.specs.Answers.{Parses, Gives}
 use Rattle.cd_cli.specs.declared.cause.Cause.{Cause}
 use Rattle.cd_cli.specs.declared.cause.Cause.TheVariants.{ScriptLimit, ScriptText, NoMemory as WithoutMemory}
 use Rattle.cd_cli.specs.Cause.{cause_of_refusal}
-use Rattle.cd_cli.specs.Judge.{IsFit, IsScriptOf, HasTree, HasNone, too_long, no_utf8, syntax, limit, Judged}
+use Rattle.cd_cli.specs.Judge.{IsFit, HasTree, HasNone, too_long, no_utf8, syntax, limit, Judged}
 
 module _ (text : List ℕ) where
   pub long_has_none : 65536 < length text → HasNone text ScriptLimit

@@ -1,6 +1,7 @@
 -- How a run of reads that are passed on goes on.
 use Rattle.std.proofs.Common.{false, ◌≡◌, ◌≢◌, inl, ℕ, ◌+◌, ◌-◌, ◌≤◌, min, length, length-take, length-append, List, [], ◌∷◌, ◌++◌, take, drop, Result, Ok, Err, refl, sym, ◌∙◌, ap, subst, arith, append_assoc}
 use Rattle.std.specs.Prelude.{All, OnOk}
+use Rattle.std.specs.Result.{IsErrAnd}
 use Rattle.std.proofs.lemmas.List.{append-nil}
 use Rattle.std.proofs.lemmas.List.Elements.{All-append, All-cons, All-tail}
 use Rattle.std.proofs.lemmas.List.Concat.{flat_map-append}
@@ -18,7 +19,7 @@ use Rattle.cd_cli.specs.Seen.{mark_of}
 use Rattle.cd_cli.specs.Take.{is_failure, IsCalm, NoneFailed, Passing, IsMove, LogsFront, HasEnough, LogsPass}
 use Rattle.cd_cli.proofs.Fronts.{take-append, take_least, take-given, left_after_read}
 use Rattle.cd_cli.proofs.SeenSteps.{goes_on_unbroken, mark_behind}
-use Rattle.cd_cli.proofs.WriteSteps.{nothing_more, on_ok}
+use Rattle.cd_cli.proofs.WriteSteps.{nothing_more, answered, IsUnfailed}
 
 -- the files
 
@@ -134,7 +135,7 @@ log_pass_none d count l = record { part = []; log = sym (append-nil l); moves = 
 
 -- what was passed so far, as an answer
 pub logs_pass : {T : Type 0} (d count left : ℕ) (mark : Mark) (l l' : List Event) (result : Result T WorldError) (so_far : LogsPassing d count left mark l l') → OnOk result (◌≡◌ {A = List ℕ} [] [])
-    → OnOk result (HasEnough count so_far.part) → OnOk result (mark ≢ Broken) → LogsPass d count result l l'
+    → OnOk result (HasEnough count so_far.part) → (IsUnfailed result → mark ≢ Broken) → LogsPass d count result l l'
 logs_pass d count left mark l l' result so_far whole enough unbroken = record {
   part = so_far.part;
   log = so_far.log;
@@ -143,12 +144,21 @@ logs_pass d count left mark l l' result so_far whole enough unbroken = record {
   front = sym so_far.written ∙ sym (append-nil (written_to 1 so_far.part));
   whole = whole;
   enough = enough;
-  calm = on_ok result so_far.calm unbroken;
+  calm = λ unfailed. so_far.calm (unbroken unfailed);
 }
 
 -- none are still to come
 pub enough_passed : (d count left : ℕ) (mark : Mark) (l l' : List Event) (so_far : LogsPassing d count left mark l l') → left ≡ 0 → HasEnough count so_far.part
 enough_passed d count left mark l l' so_far none = inl (omega (arith, so_far.still, none))
+
+-- what is known behind a read that was refused
+abbrev pub refused_mark : WorldError → Mark
+refused_mark Failed = Broken
+refused_mark NoMemory = MayGoOn
+
+pub refused_unbroken : {T : Type 0} (result : Result T WorldError) (e : WorldError) → IsErrAnd result (λ y. y ≡ e) → IsUnfailed result → refused_mark e ≢ Broken
+refused_unbroken result Failed is unfailed = absurd (unfailed (answered result Failed is))
+refused_unbroken result NoMemory is unfailed = goes_on_unbroken
 
 module _ (from : Descriptor) (count left : ℕ) (into : List ℕ) (l l1 l2 : List Event) (so_far : LogsPassing from.0 count left MayGoOn l l1) where
   -- a call that read nothing
@@ -166,9 +176,9 @@ module _ (from : Descriptor) (count left : ℕ) (into : List ℕ) (l l1 l2 : Lis
         calm = λ unbroken. All-append IsCalm so_far.part (e ∷ []) (so_far.calm goes_on_unbroken) (All-cons IsCalm e [] (calm unbroken) (nothing_more IsCalm));
       }
 
-  pub log_pass_refused : (e : WorldError) → l2 ≡ l1 ++ gave from into (Err e) → (mark : Mark) × LogsPassing from.0 count left mark l l2
-  log_pass_refused Failed log = (Broken, idle (ReadFailed from) log refl refl refl (λ unbroken. absurd (unbroken refl)))
-  log_pass_refused NoMemory log = (MayGoOn, subst (λ (k : List Event). LogsPassing from.0 count left MayGoOn l k) (sym (log ∙ append-nil l1)) so_far)
+  pub log_pass_refused : (e : WorldError) → l2 ≡ l1 ++ gave from into (Err e) → LogsPassing from.0 count left (refused_mark e) l l2
+  log_pass_refused Failed log = idle (ReadFailed from) log refl refl refl (λ unbroken. absurd (unbroken refl))
+  log_pass_refused NoMemory log = subst (λ (k : List Event). LogsPassing from.0 count left MayGoOn l k) (sym (log ∙ append-nil l1)) so_far
 
   pub log_pass_end : (k : ℕ) → k ≡ 0 → l2 ≡ l1 ++ gave from into (Ok k) → LogsPassing from.0 count left AtEnd l l2
   log_pass_end k zero log = idle (GaveEnd from) (subst (λ (m : ℕ). l2 ≡ l1 ++ gave from into (Ok m)) zero log) refl refl refl (λ unbroken. refl)
@@ -214,12 +224,21 @@ module _ (from : Descriptor) (count left : ℕ) (into : List ℕ) (l l1 l2 : Lis
         ∙ sym (append_assoc (written_to 1 so_far.part) (written_to 1 out.part) out.behind)
         ∙ ap (λ (b : List ℕ). b ++ out.behind) (sym written_is)
 
-    pub log_pass_stopped : {U : Type 0} (result : Result U WorldError) → ((P : Type 0) → OnOk result P) → LogsPass from.0 count result l l3
-    log_pass_stopped result none = record { part = so_far.part ++ now; log = log_is; moves = moves_are; behind = out.behind; front = front_is; whole = none _; enough = none _; calm = none _ }
-
     calm_now : NoneFailed out.part → NoneFailed (so_far.part ++ now)
     unfolding now
     calm_now calm = All-append IsCalm so_far.part now (so_far.calm goes_on_unbroken) (All-cons IsCalm _ out.part refl calm)
+
+    pub log_pass_stopped : {U : Type 0} (result : Result U WorldError) → ((P : Type 0) → OnOk result P) → (IsUnfailed result → IsUnfailed answer) → LogsPass from.0 count result l l3
+    log_pass_stopped result none handed = record {
+      part = so_far.part ++ now;
+      log = log_is;
+      moves = moves_are;
+      behind = out.behind;
+      front = front_is;
+      whole = none _;
+      enough = none _;
+      calm = λ unfailed. calm_now (out.calm (handed unfailed));
+    }
 
     pub log_pass_turn : out.behind ≡ [] → NoneFailed out.part → LogsPassing from.0 count (left - n) MayGoOn l l3
     log_pass_turn none calm = record {

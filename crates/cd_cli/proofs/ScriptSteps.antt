@@ -22,7 +22,7 @@ use Rattle.cd_world.specs.Files.{Files, left_at, with_given, after_open, ReadsFi
 use Rattle.cd_cli.specs.Script.{StopsIn, ComesFrom, TriesRead, Fills, IsGaveOn, Reads, LogsFill, ReadsWhole, none_called, open_failed, opened_closed, ReadsFront, LogsRead}
 use Rattle.cd_cli.specs.Cause.{answer_of}
 use Rattle.cd_cli.proofs.Fronts.{take-given, left_after_read}
-use Rattle.cd_cli.proofs.WriteSteps.{nothing_more}
+use Rattle.cd_cli.proofs.WriteSteps.{nothing_more, answered}
 
 -- the files once so much of a buffer is filled
 pub record Filling (d : ℕ) (name : List ℕ) (filled : ℕ) (buffer : List ℕ) (f f' : Files) : Type 0 where
@@ -36,11 +36,6 @@ pub record LogsFilling (d : Descriptor) (filled : ℕ) (buffer : List ℕ) (l l'
   pub log : l' ≡ l ++ gives
   pub gave : All (IsGaveOn d) gives
   pub given : bytes_given gives ≡ take filled buffer
-
--- what the exit of a `?` answers
-answered : {T : Type 0} (result : Result T WorldError) (e : WorldError) → IsErrAnd result (λ y. y ≡ e) → result ≡ Err e
-answered (Ok x) e is = absurd is
-answered (Err y) e is = ap Err is
 
 -- the buffer after a read behind its front
 

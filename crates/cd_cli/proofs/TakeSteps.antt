@@ -1,6 +1,7 @@
 -- What a run of a file's first bytes leaves, from what its calls leave.
-use Rattle.std.proofs.Common.{◌≡◌, ◌≤◌, ℕ, length, inl, inr, List, [], ◌∷◌, ◌++◌, take, drop, Result, Ok, Err, refl, sym, ◌∙◌, ap, subst, arith, append_assoc, Bool, true, if◌then◌else◌, ◌==◌}
+use Rattle.std.proofs.Common.{◌≡◌, ◌≤◌, ℕ, length, inl, inr, List, [], ◌∷◌, ◌++◌, take, drop, Result, Ok, Err, refl, sym, ◌∙◌, ap, subst, arith, append_assoc, Bool, true, false, if◌then◌else◌, ◌==◌}
 use Rattle.std.specs.Prelude.{OnOk}
+use Rattle.std.specs.Result.{IsErrAnd}
 use Rattle.std.proofs.lemmas.List.{append-nil}
 use Rattle.std.proofs.lemmas.List.Concat.{flat_map-append}
 use Rattle.std.proofs.lemmas.Bool.Decides.{nat_tests}
@@ -8,7 +9,7 @@ use Rattle.std.proofs.Math.Seq.{take-nil}
 use Rattle.cd_world.specs.declared.event.Descriptor.{Descriptor}
 use Rattle.cd_world.specs.declared.event.Use.TheVariants.{Reading}
 use Rattle.cd_world.specs.declared.event.Event.{Event}
-use Rattle.cd_world.specs.declared.event.Event.TheVariants.{OpenedRead, OpenFailed, Closed, CloseFailed as CloseFailing}
+use Rattle.cd_world.specs.declared.event.Event.TheVariants.{OpenedRead, Created, Marked, OpenFailed, Gave, GaveEnd, ReadFailed, Wrote, WriteFailed, Closed, CloseFailed as CloseFailing}
 use Rattle.cd_world.specs.declared.world.WorldError.{WorldError}
 use Rattle.cd_world.specs.declared.world.WorldError.TheVariants.{Failed, NoMemory}
 use Rattle.cd_world.specs.declared.world.CloseFailed.{CloseFailed}
@@ -16,10 +17,10 @@ use Rattle.cd_world.specs.Events.{opened, closed, given_by, bytes_given, written
 use Rattle.cd_world.specs.Files.{Files, left_at, with_given, after_open, ClosesFile}
 use Rattle.cd_world.specs.Live.{open_as}
 use Rattle.cd_cli.specs.Cause.{answer_of}
-use Rattle.cd_cli.specs.Take.{IsCalm, NoneFailed, Passes, HasEnough, LogsPass, none_called, open_refused, open_closed, Takes, LogsTake}
+use Rattle.cd_cli.specs.Take.{is_failure, is_fault, IsCalm, IsNoFault, NoneFailed, NoneFaulted, Passes, HasEnough, LogsPass, none_called, open_refused, open_closed, Takes, LogsTake}
 use Rattle.std.proofs.lemmas.List.Elements.{All-append, All-cons}
 use Rattle.cd_cli.proofs.SeenSteps.{end_stays}
-use Rattle.cd_cli.proofs.WriteSteps.{nothing_more, on_ok}
+use Rattle.cd_cli.proofs.WriteSteps.{nothing_more, on_ok, answered, on_refused, IsUnfailed, ok_unfailed, unless_failed}
 
 kept : {T U : Type 0} (answer : Result T WorldError) (closing : Result U CloseFailed) (P : Type 0) → OnOk answer P → OnOk (answer_of answer closing) P
 kept (Ok done) (Ok shut) P p = p
@@ -30,6 +31,28 @@ kept (Err error) closing P p = tt
 failed_close : (U : Type 0) {T : Type 0} (answer : Result T WorldError) (failed : CloseFailed) (P : Type 0) → OnOk (answer_of {U = U} answer (Err failed)) P
 failed_close U (Ok done) failed P = tt
 failed_close U (Err error) failed P = tt
+
+-- what was answered before the close is no failure, where the whole answer is none
+before_close : {T U : Type 0} (answer : Result T WorldError) (closing : Result U CloseFailed) → IsUnfailed (answer_of answer closing) → IsUnfailed answer
+before_close (Ok done) closing unfailed = ok_unfailed done
+before_close (Err error) closing unfailed = unfailed
+
+-- a call that did not fail is no fault
+calm_is_no_fault : (e : Event) → is_failure e ≡ false → is_fault e ≡ false
+calm_is_no_fault (OpenedRead name d) calm = refl
+calm_is_no_fault (Created name d) calm = refl
+calm_is_no_fault (Marked name d) calm = refl
+calm_is_no_fault (OpenFailed name) calm = calm
+calm_is_no_fault (Gave d bytes) calm = refl
+calm_is_no_fault (GaveEnd d) calm = refl
+calm_is_no_fault (ReadFailed d) calm = calm
+calm_is_no_fault (Wrote d bytes) calm = refl
+calm_is_no_fault (WriteFailed d) calm = calm
+calm_is_no_fault (Closed d) calm = refl
+calm_is_no_fault (CloseFailing d) calm = refl
+
+none_faulted : (events : List Event) → NoneFailed events → NoneFaulted events
+none_faulted events calm k e lt = calm_is_no_fault _ (calm k e lt)
 
 -- the files
 
@@ -71,13 +94,43 @@ module _ (name : List ℕ) (count : ℕ) (f : Files) where
 
 module _ (name : List ℕ) (count : ℕ) (l : List Event) where
   -- nothing was called
-  pub logs_nothing : {T E : Type 0} (result : Result T E) → OnOk result (◌≡◌ {A = List ℕ} [] []) → OnOk result (HasEnough count []) → LogsTake name count result l l
-  logs_nothing result whole enough = record { part = []; log = sym (append-nil l); shape = none_called; behind = []; front = take-nil count; whole = whole; enough = enough; calm = on_ok result (λ none. nothing_more IsCalm) whole }
+  pub logs_nothing : {T : Type 0} (result : Result T WorldError) → OnOk result (◌≡◌ {A = List ℕ} [] []) → OnOk result (HasEnough count []) → LogsTake name count result l l
+  logs_nothing result whole enough = record {
+    part = [];
+    log = sym (append-nil l);
+    shape = none_called;
+    behind = [];
+    front = take-nil count;
+    whole = whole;
+    enough = enough;
+    calm = on_ok result (λ none. nothing_more IsCalm) whole;
+    blamed = λ unfailed. nothing_more IsNoFault;
+  }
 
   -- the open was refused
-  pub logs_refused : {T E : Type 0} (result : Result T E) (l' : List Event) (e : WorldError) → ((P : Type 0) → OnOk result P) → l' ≡ l ++ opened Reading name (Err e) → LogsTake name count result l l'
-  logs_refused result l' Failed none log = record { part = OpenFailed name ∷ []; log = log; shape = open_refused; behind = []; front = take-nil count; whole = none _; enough = none _; calm = none _ }
-  logs_refused result l' NoMemory none log = record { part = []; log = log; shape = none_called; behind = []; front = take-nil count; whole = none _; enough = none _; calm = none _ }
+  pub logs_refused : {T : Type 0} (result : Result T WorldError) (l' : List Event) (e : WorldError) → IsErrAnd result (λ y. y ≡ e) → l' ≡ l ++ opened Reading name (Err e) → LogsTake name count result l l'
+  logs_refused result l' Failed is log = record {
+    part = OpenFailed name ∷ [];
+    log = log;
+    shape = open_refused;
+    behind = [];
+    front = take-nil count;
+    whole = on_refused result Failed is _;
+    enough = on_refused result Failed is _;
+    calm = on_refused result Failed is _;
+    blamed = λ unfailed. absurd (unfailed (answered result Failed is));
+  }
+  logs_refused result l' NoMemory is log = record {
+    part = [];
+    log = log;
+    shape = none_called;
+    behind = [];
+    front = take-nil count;
+    whole = on_refused result NoMemory is _;
+    enough = on_refused result NoMemory is _;
+    calm = on_refused result NoMemory is _;
+    blamed = λ unfailed. nothing_more IsNoFault;
+  }
 
   -- the file was opened, passed on and closed
   module _ {T : Type 0} (d : Descriptor) (l1 l2 l3 : List Event) (answer : Result T WorldError) (passes : LogsPass d.0 count answer l1 l2) (opens : l1 ≡ l ++ opened Reading name (Ok d)) where
@@ -85,9 +138,13 @@ module _ (name : List ℕ) (count : ℕ) (l : List Event) where
     enough_of end given (inl many) = inl (subst (λ (b : List ℕ). count ≤ length b) (sym given) many)
     enough_of end given (inr told) = inr (end_stays passes.part (end ∷ []) told)
 
-    logs_end : (result : Result T WorldError) (end : Event) → IsCloseOf d end → given_by end ≡ [] → written_by 1 end ≡ [] → OnOk result (passes.behind ≡ []) → OnOk result (HasEnough count passes.part) → OnOk result (NoneFailed (OpenedRead name d ∷ passes.part ++ end ∷ []))
-        → l3 ≡ l2 ++ end ∷ [] → LogsTake name count result l l3
-    logs_end result end is_close gives writes whole enough calm log =
+    blamed_of : (end : Event) → is_fault end ≡ false → NoneFailed passes.part → NoneFaulted (OpenedRead name d ∷ passes.part ++ end ∷ [])
+    blamed_of end no_fault calm = All-append IsNoFault (OpenedRead name d ∷ passes.part) (end ∷ []) (All-cons IsNoFault _ passes.part refl (none_faulted passes.part calm))
+        (All-cons IsNoFault end [] no_fault (nothing_more IsNoFault))
+
+    logs_end : (result : Result T WorldError) (end : Event) → IsCloseOf d end → given_by end ≡ [] → written_by 1 end ≡ [] → is_fault end ≡ false → OnOk result (passes.behind ≡ []) → OnOk result (HasEnough count passes.part)
+        → OnOk result (NoneFailed (OpenedRead name d ∷ passes.part ++ end ∷ [])) → (IsUnfailed result → IsUnfailed answer) → l3 ≡ l2 ++ end ∷ [] → LogsTake name count result l l3
+    logs_end result end is_close gives writes no_fault whole enough calm before log =
         let given : bytes_given (passes.part ++ end ∷ []) ≡ bytes_given passes.part = flat_map-append given_by passes.part (end ∷ []) ∙ ap (λ (b : List ℕ). bytes_given passes.part ++ (b ++ [])) gives ∙ append-nil (bytes_given passes.part) in
         let wrote : written_to 1 (passes.part ++ end ∷ []) ≡ written_to 1 passes.part = flat_map-append (written_by 1) passes.part (end ∷ []) ∙ ap (λ (b : List ℕ). written_to 1 passes.part ++ (b ++ [])) writes ∙ append-nil (written_to 1 passes.part) in
         record {
@@ -100,16 +157,21 @@ module _ (name : List ℕ) (count : ℕ) (l : List Event) where
           whole = whole;
           enough = on_ok result (enough_of end given) enough;
           calm = calm;
+          blamed = λ unfailed. blamed_of end no_fault (passes.calm (before unfailed));
         }
 
     kept_by : {U : Type 0} (closing : Result U CloseFailed) (result : Result T WorldError) → result ≡ answer_of answer closing → (P : Type 0) → OnOk answer P → OnOk result P
     kept_by closing result is P p = subst (λ (r : Result T WorldError). OnOk r P) (sym is) (kept answer closing P p)
 
+    unfailed_before : {U : Type 0} (closing : Result U CloseFailed) (result : Result T WorldError) → result ≡ answer_of answer closing → IsUnfailed result → IsUnfailed answer
+    unfailed_before closing result is unfailed = before_close answer closing (subst (λ (r : Result T WorldError). IsUnfailed r) is unfailed)
+
     closed_calm : NoneFailed passes.part → NoneFailed (OpenedRead name d ∷ passes.part ++ Closed d ∷ [])
     closed_calm calm = All-append IsCalm (OpenedRead name d ∷ passes.part) (Closed d ∷ []) (All-cons IsCalm _ passes.part refl calm) (All-cons IsCalm _ [] refl (nothing_more IsCalm))
 
     pub logs_closed : {U : Type 0} (closing : Result U CloseFailed) (result : Result T WorldError) → result ≡ answer_of answer closing → l3 ≡ l2 ++ closed d closing → LogsTake name count result l l3
-    logs_closed (Ok shut) result is log = logs_end result (Closed d) refl refl refl (kept_by (Ok shut) result is _ passes.whole) (kept_by (Ok shut) result is _ passes.enough)
-        (on_ok result closed_calm (kept_by (Ok shut) result is _ passes.calm)) log
-    logs_closed (Err failed) result is log = logs_end result (CloseFailing d) refl refl refl (kept_by (Err failed) result is _ passes.whole) (kept_by (Err failed) result is _ passes.enough)
-        (subst (λ (r : Result T WorldError). OnOk r (NoneFailed (OpenedRead name d ∷ passes.part ++ CloseFailing d ∷ []))) (sym is) (failed_close _ answer failed _)) log
+    logs_closed (Ok shut) result is log = logs_end result (Closed d) refl refl refl refl (kept_by (Ok shut) result is _ passes.whole) (kept_by (Ok shut) result is _ passes.enough)
+        (on_ok result closed_calm (kept_by (Ok shut) result is _ (unless_failed answer _ passes.calm))) (unfailed_before (Ok shut) result is) log
+    logs_closed (Err failed) result is log = logs_end result (CloseFailing d) refl refl refl refl (kept_by (Err failed) result is _ passes.whole) (kept_by (Err failed) result is _ passes.enough)
+        (subst (λ (r : Result T WorldError). OnOk r (NoneFailed (OpenedRead name d ∷ passes.part ++ CloseFailing d ∷ []))) (sym is) (failed_close _ answer failed _))
+        (unfailed_before (Err failed) result is) log

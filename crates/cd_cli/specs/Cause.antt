@@ -1,5 +1,5 @@
 -- How a run of the command ended.
-use Rattle.std.specs.Prelude.{◌≡◌, ◌≤◌, ◌⊎◌, ℕ, Result, Ok, Err}
+use Rattle.std.specs.Prelude.{◌≡◌, ◌≤◌, ℕ, Result, Ok, Err}
 use Rattle.cd_world.specs.Causes.{Rose}
 use Rattle.cd_world.specs.declared.world.CloseFailed.{CloseFailed}
 use Rattle.cd_world.specs.declared.world.WorldError.{WorldError}
@@ -7,6 +7,8 @@ use Rattle.cd_world.specs.declared.world.WorldError.TheVariants.{Failed, NoMemor
 use Rattle.cd_script.specs.declared.refusal.ScriptRefusal.{ScriptRefusal}
 use Rattle.cd_script.specs.declared.refusal.ScriptRefusal.TheVariants as refusal
 use Rattle.cd_cli.specs.declared.cause.Cause.{Cause}
+use Rattle.cd_cli.specs.declared.words.WordsRefusal.{WordsRefusal}
+use Rattle.cd_cli.specs.declared.words.WordsRefusal.TheVariants as words
 use Rattle.cd_cli.specs.declared.cause.Cause.TheVariants as cause
 
 abbrev pub status_of : Cause → ℕ
@@ -30,6 +32,11 @@ cause_of NoMemory = cause.NoMemory
 abbrev pub script_cause : WorldError → Cause
 script_cause Failed = cause.ScriptFault
 script_cause NoMemory = cause.NoMemory
+
+-- the cause that refused words are
+abbrev pub words_cause : WordsRefusal → Cause
+words_cause words.Usage = cause.Usage
+words_cause words.NoMemory = cause.NoMemory
 
 -- the cause that a refused script is
 abbrev pub cause_of_refusal : ScriptRefusal → Cause

@@ -1,37 +1,27 @@
--- What the command does: it reads a script, judges it, and runs it where it is of the form.
-use Rattle.std.specs.Prelude.{◌≡◌, ◌≢◌, ◌≤◌, ◌⊎◌, ℕ, List, [], ◌∷◌, ◌++◌, codes}
+-- What the command does: it reads a script and judges it, and then runs it, where it is of the form, or shows it.
+use Rattle.std.specs.Prelude.{◌≡◌, ◌≢◌, ◌≤◌, ◌⊎◌, ℕ, List, [], ◌++◌, All}
 use Rattle.cd_elem.specs.declared.script.Stmt.{Stmt}
 use Rattle.cd_world.specs.declared.event.Event.{Event}
 use Rattle.cd_world.specs.declared.world.WorldError.{WorldError}
 use Rattle.cd_world.specs.Causes.{Rose}
-use Rattle.cd_world.specs.Events.{written_to}
+use Rattle.cd_world.specs.Events.{written_to, IsWriteOn}
 use Rattle.cd_world.specs.Files.{Files}
 use Rattle.cd_meaning.specs.Stream.{Value, Done}
 use Rattle.cd_meaning.specs.Run.{ending}
 use Rattle.cd_meaning.specs.Scripts.{script_run, standard_output, whole_files}
 use Rattle.cd_meaning.specs.TakeForm.{take_script}
+use Rattle.cd_meaning.specs.CanonicalText.{canonical_text}
 use Rattle.cd_cli.specs.declared.cause.Cause.{Cause}
 use Rattle.cd_cli.specs.declared.cause.Cause.TheVariants.{Success, Usage, ScriptFault, NotBuilt, OutsideFault, NoMemory}
 use Rattle.cd_cli.specs.Cause.{script_cause}
+use Rattle.cd_cli.specs.declared.words.Command.{Command}
+use Rattle.cd_cli.specs.declared.words.Command.TheVariants.{Run, Show}
+use Rattle.cd_cli.specs.Words.{IsCommand, IsNone, script_of}
 use Rattle.cd_cli.specs.Form.{NoForm}
 use Rattle.cd_cli.specs.Judge.{HasTree, HasNone, IsScriptOf}
 use Rattle.cd_cli.specs.Script.{ReadsWhole, TriesRead}
 use Rattle.cd_cli.specs.Seen.{seen_of}
-use Rattle.cd_cli.specs.Take.{NoneFailed, OpensAndCloses}
-
--- a word that begins with `-` is an option, unless it is `-` alone
-abbrev pub IsOption : List ℕ → Type 0
-IsOption word = (rest : List ℕ) × (word ≡ 45 ∷ rest) × (rest ≢ [])
-
--- a word that is not empty and no option
-pub record IsScriptName (word : List ℕ) : Type 0 where
-  pub some : word ≢ []
-  pub no_option : IsOption word → ⊥
-
--- the words `run SCRIPT`
-pub record NamesScript (words : List (List ℕ)) (script : List ℕ) : Type 0 where
-  pub words_are : words ≡ codes "run" ∷ script ∷ []
-  pub name : IsScriptName script
+use Rattle.cd_cli.specs.Take.{NoneFailed, NoneFaulted, OpensAndCloses}
 
 -- a run came to its end, or a call on the outside was refused, or memory was wanting
 abbrev pub IsRunCause : Cause → Type 0
@@ -44,7 +34,7 @@ IsUnread cause = (cause ≡ ScriptFault) ⊎ (cause ≡ NoMemory)
 -- ---- by what was called
 
 -- A script of the form was run by these calls. They wrote a front of what standard output gets of its meaning over what
--- was seen; and all of that, it is done and no call failed, where the cause is Success.
+-- was seen; and all of that, it is done and no call failed, where the cause is Success. No call but the close failed, unless that is the cause.
 pub record Runs (name : List ℕ) (count : ℕ) (cause : Cause) (calls : List Event) : Type 0 where
   pub shape : OpensAndCloses name calls
   pub behind : List ℕ
@@ -52,38 +42,51 @@ pub record Runs (name : List ℕ) (count : ℕ) (cause : Cause) (calls : List Ev
   pub whole : cause ≡ Success → behind ≡ []
   pub done : cause ≡ Success → ending (script_run (take_script name count) (seen_of calls)) ≡ Done Value.Unit
   pub calm : cause ≡ Success → NoneFailed calls
+  pub blamed : cause ≢ OutsideFault → NoneFaulted calls
 
 -- A tree was run by these calls where it is of the form.
 pub data RunsTree (tree : List Stmt) (cause : Cause) : List Event → Type 0 where
   no_form : NoForm tree → cause ≡ NotBuilt → RunsTree tree cause []
   of_form : (name : List ℕ) (count : ℕ) (calls : List Event) → tree ≡ take_script name count → IsRunCause cause → Runs name count cause calls → RunsTree tree cause calls
 
--- A text was judged, and its tree was run by these calls.
-pub data Judges (text : List ℕ) (cause : Cause) : List Event → Type 0 where
-  no_memory : cause ≡ NoMemory → Judges text cause []
-  no_script : HasNone text cause → Judges text cause []
-  of_tree : (tree : List Stmt) (calls : List Event) → HasTree text tree → RunsTree tree cause calls → Judges text cause calls
+-- A tree was shown by these calls, which were writes to standard output alone. They wrote a front of its canonical text, and
+-- all of it where the cause is Success. No call failed, unless that is the cause.
+pub record ShowsTree (tree : List Stmt) (cause : Cause) (calls : List Event) : Type 0 where
+  pub ran : IsRunCause cause
+  pub writes : All (IsWriteOn 1) calls
+  pub behind : List ℕ
+  pub front : canonical_text tree ≡ written_to 1 calls ++ behind
+  pub whole : cause ≡ Success → behind ≡ []
+  pub calm : cause ≢ OutsideFault → NoneFailed calls
 
--- What was called for a tree, and for a text.
-pub record LogsTree (tree : List Stmt) (cause : Cause) (l l' : List Event) : Type 0 where
+-- What a command does with a tree, by its calls.
+abbrev pub Does : Command → List Stmt → Cause → List Event → Type 0
+Does (Run script) tree = RunsTree tree
+Does (Show script) tree = ShowsTree tree
+
+-- A text was judged, and this was done with its tree by these calls.
+pub data Judges (DoesTree : List Stmt → Cause → List Event → Type 0) (text : List ℕ) (cause : Cause) : List Event → Type 0 where
+  no_memory : cause ≡ NoMemory → Judges DoesTree text cause []
+  no_script : HasNone text cause → Judges DoesTree text cause []
+  of_tree : (tree : List Stmt) (calls : List Event) → HasTree text tree → DoesTree tree cause calls → Judges DoesTree text cause calls
+
+-- What was called by something that does so.
+pub record Logs (DoesSo : Cause → List Event → Type 0) (cause : Cause) (l l' : List Event) : Type 0 where
   pub calls : List Event
   pub log : l' ≡ l ++ calls
-  pub runs : RunsTree tree cause calls
+  pub does : DoesSo cause calls
 
-pub record LogsJudging (text : List ℕ) (cause : Cause) (l l' : List Event) : Type 0 where
-  pub calls : List Event
-  pub log : l' ≡ l ++ calls
-  pub judges : Judges text cause calls
+-- The first calls read the script, of which at most 65,537 bytes are read. The text that is judged is all that they gave, and the other calls do this with its tree.
+pub data ReadsAndJudges (DoesTree : List Stmt → Cause → List Event → Type 0) (script : List ℕ) (cause : Cause) : List Event → List Event → Type 0 where
+  unread : (error : WorldError) (reading : List Event) → TriesRead script 65537 error reading → cause ≡ script_cause error → ReadsAndJudges DoesTree script cause reading []
+  read : (text : List ℕ) (reading calls : List Event) → ReadsWhole script 65537 text reading → Judges DoesTree text cause calls → ReadsAndJudges DoesTree script cause reading calls
 
--- The first calls read the script, of which at most 65,537 bytes are read. The text that is judged is all that they gave, and the other calls run it.
-pub data ReadsAndJudges (script : List ℕ) (cause : Cause) : List Event → List Event → Type 0 where
-  unread : (error : WorldError) (reading : List Event) → TriesRead script 65537 error reading → cause ≡ script_cause error → ReadsAndJudges script cause reading []
-  read : (text : List ℕ) (reading calls : List Event) → ReadsWhole script 65537 text reading → Judges text cause calls → ReadsAndJudges script cause reading calls
-
--- The words are judged, and nothing is called for words that name no script.
+-- The words are read, and nothing is called for words of no command.
 pub data Calls (words : List (List ℕ)) (cause : Cause) : List Event → List Event → Type 0 where
-  other_words : ((script : List ℕ) → NamesScript words script → ⊥) → cause ≡ Usage → Calls words cause [] []
-  run_words : (script : List ℕ) (reading calls : List Event) → NamesScript words script → ReadsAndJudges script cause reading calls → Calls words cause reading calls
+  no_memory : cause ≡ NoMemory → Calls words cause [] []
+  other_words : IsNone words → cause ≡ Usage → Calls words cause [] []
+  of_command : (command : Command) (reading calls : List Event) → IsCommand words command → ReadsAndJudges (Does command) (script_of command) cause reading calls
+      → Calls words cause reading calls
 
 -- What was called in all: first these calls, then those.
 pub record Called (Answer : List Event → List Event → Type 0) (l l' : List Event) : Type 0 where
@@ -110,21 +113,35 @@ pub data SendsTree (contents : List ℕ → List ℕ) (tree : List Stmt) (cause 
   no_form : NoForm tree → cause ≡ NotBuilt → SendsTree contents tree cause []
   of_form : (name : List ℕ) (count : ℕ) (sent : List ℕ) → tree ≡ take_script name count → IsRunCause cause → Puts contents name count cause sent → SendsTree contents tree cause sent
 
--- A text was judged, and its tree was run.
-pub data Sends (contents : List ℕ → List ℕ) (text : List ℕ) (cause : Cause) : List ℕ → Type 0 where
-  no_memory : cause ≡ NoMemory → Sends contents text cause []
-  no_script : HasNone text cause → Sends contents text cause []
-  of_tree : (tree : List Stmt) (sent : List ℕ) → HasTree text tree → SendsTree contents tree cause sent → Sends contents text cause sent
+-- A tree was shown: a front of its canonical text was sent, and all of it where the cause is Success.
+pub record SendsText (tree : List Stmt) (cause : Cause) (sent : List ℕ) : Type 0 where
+  pub ran : IsRunCause cause
+  pub behind : List ℕ
+  pub front : canonical_text tree ≡ sent ++ behind
+  pub whole : cause ≡ Success → behind ≡ []
+
+-- What a command sends for a tree.
+abbrev pub SendsFor : Command → (List ℕ → List ℕ) → List Stmt → Cause → List ℕ → Type 0
+SendsFor (Run script) contents tree = SendsTree contents tree
+SendsFor (Show script) contents tree = SendsText tree
+
+-- A text was judged, and this was sent for its tree.
+pub data Sends (SendsSo : List Stmt → Cause → List ℕ → Type 0) (text : List ℕ) (cause : Cause) : List ℕ → Type 0 where
+  no_memory : cause ≡ NoMemory → Sends SendsSo text cause []
+  no_script : HasNone text cause → Sends SendsSo text cause []
+  of_tree : (tree : List Stmt) (sent : List ℕ) → HasTree text tree → SendsSo tree cause sent → Sends SendsSo text cause sent
 
 -- The text that is judged is the script file's.
-pub data SendsScript (contents : List ℕ → List ℕ) (script : List ℕ) (cause : Cause) : List ℕ → Type 0 where
-  unread : IsUnread cause → SendsScript contents script cause []
-  read : (sent : List ℕ) → Sends contents (contents script) cause sent → SendsScript contents script cause sent
+pub data SendsScript (SendsSo : List Stmt → Cause → List ℕ → Type 0) (contents : List ℕ → List ℕ) (script : List ℕ) (cause : Cause) : List ℕ → Type 0 where
+  unread : IsUnread cause → SendsScript SendsSo contents script cause []
+  read : (sent : List ℕ) → Sends SendsSo (contents script) cause sent → SendsScript SendsSo contents script cause sent
 
--- The words are judged, and nothing is sent for words that name no script.
+-- The words are read, and nothing is sent for words of no command.
 pub data Answers (words : List (List ℕ)) (contents : List ℕ → List ℕ) (cause : Cause) : List ℕ → Type 0 where
-  other_words : ((script : List ℕ) → NamesScript words script → ⊥) → cause ≡ Usage → Answers words contents cause []
-  run_words : (script sent : List ℕ) → NamesScript words script → SendsScript contents script cause sent → Answers words contents cause sent
+  no_memory : cause ≡ NoMemory → Answers words contents cause []
+  other_words : IsNone words → cause ≡ Usage → Answers words contents cause []
+  of_command : (command : Command) (sent : List ℕ) → IsCommand words command → SendsScript (SendsFor command contents) contents (script_of command) cause sent
+      → Answers words contents cause sent
 
 -- What was sent in all, by the answer to a tree, a text, a script, and to the words. No file is changed.
 pub record Sent (Answer : List ℕ → Type 0) (f f' : Files) : Type 0 where
@@ -133,7 +150,12 @@ pub record Sent (Answer : List ℕ → Type 0) (f f' : Files) : Type 0 where
   pub contents : f'.contents ≡ f.contents
   pub answer : Answer sent
 
--- With the words of a run, a script of the form and no failed call, the script runs to its end, or there is no memory.
+-- a text that this command takes: a script of the form to run, and any script to show
+abbrev pub IsTaken : Command → List ℕ → Type 0
+IsTaken (Run script) text = (name : List ℕ) × (count : ℕ) × IsScriptOf text (take_script name count)
+IsTaken (Show script) text = (tree : List Stmt) × IsScriptOf text tree
+
+-- With the words of a command, a script that it takes and no failed call, it comes to its end, or there is no memory.
 abbrev pub Completes : List (List ℕ) → (List ℕ → List ℕ) → ℕ → ℕ → Cause → Type 0
 Completes words contents before now cause =
-    (script name : List ℕ) (count : ℕ) → NamesScript words script → IsScriptOf (contents script) (take_script name count) → (Rose before now → ⊥) → (cause ≡ Success) ⊎ (cause ≡ NoMemory)
+    (command : Command) → IsCommand words command → IsTaken command (contents (script_of command)) → (Rose before now → ⊥) → (cause ≡ Success) ⊎ (cause ≡ NoMemory)

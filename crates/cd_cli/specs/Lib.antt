@@ -5,3 +5,4 @@ pub mod Judge
 pub mod Script
 pub mod Seen
 pub mod Take
+pub mod Words

@@ -1,8 +1,10 @@
 -- What a run of a file's first bytes to standard output does to the files, and what it calls.
-use Rattle.std.specs.Prelude.{◌≡◌, ◌≤◌, ◌⊎◌, ℕ, Bool, true, false, List, [], ◌∷◌, ◌++◌, All, length, take, Result, OnOk}
+use Rattle.std.specs.Prelude.{◌≡◌, ◌≢◌, ◌≤◌, ◌⊎◌, ℕ, Bool, true, false, List, [], ◌∷◌, ◌++◌, All, length, take, Result, Err, OnOk}
 use Rattle.cd_world.specs.declared.event.Descriptor.{Descriptor}
 use Rattle.cd_world.specs.declared.event.Event.{Event}
 use Rattle.cd_world.specs.declared.event.Event.TheVariants.{OpenedRead, OpenFailed, Gave, GaveEnd, ReadFailed, Wrote, WriteFailed, CloseFailed as CloseFailing}
+use Rattle.cd_world.specs.declared.world.WorldError.{WorldError}
+use Rattle.cd_world.specs.declared.world.WorldError.TheVariants.{Failed}
 use Rattle.cd_world.specs.Events.{written_to, bytes_given, IsWriteOn, IsCloseOf}
 use Rattle.cd_world.specs.Files.{Files, with_output, left_at}
 use Rattle.cd_meaning.specs.Words.{AtEnd}
@@ -23,6 +25,20 @@ IsCalm e = is_failure e ≡ false
 abbrev pub NoneFailed : List Event → Type 0
 NoneFailed events = All IsCalm events
 
+-- a call that failed and was no close
+abbrev pub is_fault : Event → Bool
+is_fault (OpenFailed name) = true
+is_fault (ReadFailed from) = true
+is_fault (WriteFailed to) = true
+is_fault _ = false
+
+abbrev pub IsNoFault : Event → Type 0
+IsNoFault e = is_fault e ≡ false
+
+-- no call failed, but closes may have
+abbrev pub NoneFaulted : List Event → Type 0
+NoneFaulted events = All IsNoFault events
+
 -- A front of these bytes was written to standard output, and all of them where that went well.
 pub record WritesFront {T E : Type 0} (bytes : List ℕ) (result : Result T E) (f f' : Files) : Type 0 where
   pub sent : List ℕ
@@ -31,15 +47,15 @@ pub record WritesFront {T E : Type 0} (bytes : List ℕ) (result : Result T E) (
   pub whole : OnOk result (behind ≡ [])
   pub files : f' ≡ with_output sent f
 
--- The same by the calls, which were writes to standard output alone, and none of which failed where that went well.
-pub record LogsFront {T E : Type 0} (bytes : List ℕ) (result : Result T E) (l l' : List Event) : Type 0 where
+-- The same by the calls, which were writes to standard output alone. None of them failed, unless that is the answer.
+pub record LogsFront {T : Type 0} (bytes : List ℕ) (result : Result T WorldError) (l l' : List Event) : Type 0 where
   pub part : List Event
   pub log : l' ≡ l ++ part
   pub writes : All (IsWriteOn 1) part
   pub behind : List ℕ
   pub front : bytes ≡ written_to 1 part ++ behind
   pub whole : OnOk result (behind ≡ [])
-  pub calm : OnOk result (NoneFailed part)
+  pub calm : result ≢ Err Failed → NoneFailed part
 
 -- Of the first `count` bytes that were left of a file these were written to standard output, and those behind them were not.
 pub record Passing (d : ℕ) (name : List ℕ) (count : ℕ) (behind : List ℕ) (f f' : Files) : Type 0 where
@@ -67,8 +83,9 @@ IsMove d _ = ⊥
 abbrev pub HasEnough : ℕ → List Event → Type 0
 HasEnough count events = (count ≤ length (bytes_given events)) ⊎ (mark_of events ≡ AtEnd)
 
--- Of the first `count` bytes that were read a front was written. Where that went well all of them were, no more are to be had, and no call failed.
-pub record LogsPass {T E : Type 0} (d : ℕ) (count : ℕ) (result : Result T E) (l l' : List Event) : Type 0 where
+-- Of the first `count` bytes that were read a front was written. Where that went well all of them were, and no more are to be had. No call failed, unless that
+-- is the answer.
+pub record LogsPass {T : Type 0} (d : ℕ) (count : ℕ) (result : Result T WorldError) (l l' : List Event) : Type 0 where
   pub part : List Event
   pub log : l' ≡ l ++ part
   pub moves : All (IsMove d) part
@@ -76,7 +93,7 @@ pub record LogsPass {T E : Type 0} (d : ℕ) (count : ℕ) (result : Result T E)
   pub front : take count (bytes_given part) ≡ written_to 1 part ++ behind
   pub whole : OnOk result (behind ≡ [])
   pub enough : OnOk result (HasEnough count part)
-  pub calm : OnOk result (NoneFailed part)
+  pub calm : result ≢ Err Failed → NoneFailed part
 
 -- A front of the file's first `count` bytes was written to standard output, and all of them where that went well.
 pub record Takes {T E : Type 0} (name : List ℕ) (count : ℕ) (result : Result T E) (f f' : Files) : Type 0 where
@@ -93,8 +110,9 @@ pub data OpensAndCloses (name : List ℕ) : List Event → Type 0 where
   open_refused : OpensAndCloses name (OpenFailed name ∷ [])
   open_closed : (d : Descriptor) (moves : List Event) (end : Event) → All (IsMove d.0) moves → IsCloseOf d end → OpensAndCloses name (OpenedRead name d ∷ moves ++ end ∷ [])
 
--- Of the first `count` bytes that were read a front was written. Where that went well all of them were, no more are to be had, and no call failed.
-pub record LogsTake {T E : Type 0} (name : List ℕ) (count : ℕ) (result : Result T E) (l l' : List Event) : Type 0 where
+-- Of the first `count` bytes that were read a front was written. Where that went well all of them were, no more are to be had, and no call failed. No call but
+-- the close failed, unless that is the answer.
+pub record LogsTake {T : Type 0} (name : List ℕ) (count : ℕ) (result : Result T WorldError) (l l' : List Event) : Type 0 where
   pub part : List Event
   pub log : l' ≡ l ++ part
   pub shape : OpensAndCloses name part
@@ -103,3 +121,4 @@ pub record LogsTake {T E : Type 0} (name : List ℕ) (count : ℕ) (result : Res
   pub whole : OnOk result (behind ≡ [])
   pub enough : OnOk result (HasEnough count part)
   pub calm : OnOk result (NoneFailed part)
+  pub blamed : result ≢ Err Failed → NoneFaulted part

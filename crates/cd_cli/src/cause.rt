@@ -2,6 +2,7 @@
 ghost use Rattle.std.specs.Prelude.{◌≡◌};
 ghost use Rattle.cd_cli.specs.Cause.{status_of, cause_of_refusal, script_cause};
 
+use crate::words::WordsRefusal;
 use cd_elem::LimitKind;
 use cd_script::ScriptRefusal;
 use cd_world::WorldError;
@@ -60,6 +61,19 @@ impl From<WorldError> for Cause {
         match error {
             WorldError::Failed => Cause::OutsideFault,
             WorldError::NoMemory => Cause::NoMemory,
+        }
+    }
+}
+
+impl From<WordsRefusal> for Cause {
+    ghost use Rattle.cd_cli.specs.Cause.{words_cause};
+
+    ghost from_gives = { λ refusal cause. cause ≡ words_cause refusal };
+
+    fn from(refusal: WordsRefusal) -> Cause {
+        match refusal {
+            WordsRefusal::Usage => Cause::Usage,
+            WordsRefusal::NoMemory => Cause::NoMemory,
         }
     }
 }

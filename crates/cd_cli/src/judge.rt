@@ -1,4 +1,6 @@
 // Judging the bytes of a script.
+ghost use Rattle.std.specs.Prelude.{IfOk};
+ghost use Rattle.cd_meaning.specs.Canonical.{IsTreeWithin};
 ghost use Rattle.cd_cli.specs.Judge.{Judged};
 
 use crate::cause::Cause;
@@ -12,7 +14,8 @@ const SCRIPT_MAX: usize = 65_536;
 
 /// The tree of a script's bytes, or why they have none: they are too many, no UTF-8, or no script.
 pub fn judge(alloc: Global, text: &[u8]) -> Result<Script, Cause>
-    ensures { Judged text.now result }
+    ensures judged { Judged text.now result }
+    ensures within { IfOk result (λ tree. IsTreeWithin tree) }
 {
     if text.len() > SCRIPT_MAX {
         return Err(Cause::ScriptLimit);

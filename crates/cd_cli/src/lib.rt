@@ -7,6 +7,8 @@ mod form;
 mod judge;
 mod script;
 mod take;
+mod words;
 
 pub use cause::{Cause, Outcome};
 pub use command::conduit_main;
+pub use words::{Command, WordsRefusal, read_words};

@@ -14,7 +14,7 @@ use std::alloc::Global;
 const READ_SIZE: usize = 32_768;
 
 /// Writes all of `bytes` to standard output.
-fn write_all<W: World>(world: &mut W, bytes: &[u8]) -> Result<(), WorldError>
+pub fn write_all<W: World>(world: &mut W, bytes: &[u8]) -> Result<(), WorldError>
     ensures cause { HasCause (W.faults world.old) (W.faults world.new) result }
     ensures live { W.live world.new ≡ W.live world.old }
     ensures files { IsTrue W.tells_files → WritesFront bytes.now result (W.files world.old) (W.files world.new) }

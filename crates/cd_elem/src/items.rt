@@ -91,6 +91,13 @@ impl<T> Items<T> {
         self.items.as_slice()
     }
 
+    /// The members of a `Vec` as a list. It takes no memory.
+    pub fn from_vec(items: Vec<T>) -> Items<T>
+        ensures { result ≡ items.items }
+    {
+        Items { items }
+    }
+
     /// The members as a `Vec`. It takes no memory.
     pub fn into_vec(self) -> Vec<T>
         ensures { result.items ≡ self }

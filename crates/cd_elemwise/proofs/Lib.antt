@@ -1,3 +1,4 @@
+mod InPlace
 pub mod PlanLaws
 pub mod StageLaws
 pub mod WordReads

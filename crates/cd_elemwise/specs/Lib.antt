@@ -1,3 +1,4 @@
 pub mod Plans
 pub mod Stages
+pub mod Tables
 pub mod Words

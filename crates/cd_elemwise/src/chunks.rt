@@ -122,6 +122,7 @@ pub fn sum_of(before: u64, chunk: &Chunk) -> u64
     requires { chunk.now.0 ≡ sort.Bytes }
     ensures { result ≡ as_count (before + sum chunk.now.1) }
 {
+    let len = chunk.len();
     match chunk.as_bytes() {
         Some(bytes) => sum_behind(before, bytes),
         None => unreachable!(),

@@ -3,6 +3,7 @@
 
 mod chunks;
 mod class;
+mod class_table;
 mod collect;
 mod element;
 mod plan;

@@ -1,10 +1,10 @@
 // What is done with many elements at a time, in one pass.
-ghost use Rattle.std.specs.Prelude.{◌≡◌, ◌+◌, ◌<◌, ◌≤◌, ℕ, IfOk, OnOk, ◌++◌, length, map, filter, replicate, sum};
+ghost use Rattle.std.specs.Prelude.{◌≡◌, ◌+◌, ◌*◌, ◌<◌, ◌≤◌, ℕ, IfOk, OnOk, ◌++◌, length, map, filter, replicate, sum};
 ghost use Rattle.std.specs.List.{prefix_len, flat_map};
 ghost use Rattle.cd_meaning.specs.Classes.{is_in_class, element_mapped};
 ghost use Rattle.cd_meaning.specs.Words.{as_count};
 
-use crate::class::is_in;
+use crate::class_table::ClassTable;
 use crate::element::Element;
 use cd_elem::{ByteMap, Class, Items, NoMemory};
 use std::alloc::Global;
@@ -14,8 +14,9 @@ pub fn front<T: Element>(class: Class, items: &[T]) -> usize
     ensures value { result ≡ prefix_len (λ x. is_in_class class (T.number x)) items.now }
     ensures within { result ≤ length items.now }
 {
+    let table = ClassTable::new(class, items.len());
     for (place, item) in items.iter().enumerate() {
-        if !is_in(class, item.number()) {
+        if !table.has(item.number()) {
             return place;
         }
     }
@@ -26,13 +27,14 @@ pub fn front<T: Element>(class: Class, items: &[T]) -> usize
 pub fn passing<T: Element>(alloc: Global, class: Class, items: &[T]) -> Result<Items<T>, NoMemory>
     ensures { IfOk result (λ list. list ≡ filter (λ x. is_in_class class (T.number x)) items.now) }
 {
-    let mut list = Items::new(alloc);
+    let table = ClassTable::new(class, items.len());
+    let mut list = Vec::with_capacity(alloc, items.len())?;
     for item in items {
-        if is_in(class, item.number()) && list.push(*item).is_err() {
-            return Err(NoMemory);
+        if table.has(item.number()) {
+            list.push(*item)?;
         }
     }
-    Ok(list)
+    Ok(Items::from_vec(list))
 }
 
 /// What the map makes of each.
@@ -40,45 +42,43 @@ pub fn mapped<T: Element>(alloc: Global, by: ByteMap, items: &[T]) -> Result<Ite
     requires { T.has by }
     ensures { IfOk result (λ list. map T.number list ≡ map (λ x. element_mapped by (T.number x)) items.now) }
 {
-    let mut list = Items::new(alloc);
-    for item in items {
-        if list.push(item.mapped(by)).is_err() {
-            return Err(NoMemory);
-        }
+    let mut list = Vec::from_slice(alloc, items)?;
+    for item in list.iter_mut() {
+        *item = item.mapped(by);
     }
-    Ok(list)
+    Ok(Items::from_vec(list))
 }
 
 /// Adds an element so many times.
-fn push_times<T: Element>(list: &mut Items<T>, item: T, times: usize) -> Result<(), NoMemory>
-    ensures { OnOk result (list.new ≡ list.old ++ replicate times item) }
+fn push_times<T: Element>(list: &mut Vec<T>, item: T, times: usize) -> Result<(), NoMemory>
+    ensures { OnOk result (list.new.items ≡ list.old.items ++ replicate times item) }
 {
     for _ in 0..times {
-        if list.push(item).is_err() {
-            return Err(NoMemory);
-        }
+        list.push(item)?;
     }
     Ok(())
 }
 
-/// Each so many times.
+/// Each so many times, at most 65,536 in all.
 pub fn repeated<T: Element>(alloc: Global, times: usize, items: &[T]) -> Result<Items<T>, NoMemory>
+    requires { length items.now * times ≤ 65536 }
     ensures { IfOk result (λ list. list ≡ flat_map (λ x. replicate times x) items.now) }
 {
-    let mut list = Items::new(alloc);
+    let mut list = Vec::with_capacity(alloc, items.len() * times)?;
     for item in items {
         push_times(&mut list, *item, times)?;
     }
-    Ok(list)
+    Ok(Items::from_vec(list))
 }
 
-/// The sum of the bytes and of what was before, which stays at the greatest count.
+/// The sum of the bytes of a chunk and of what was before, which stays at the greatest count.
 pub fn sum_behind(before: u64, bytes: &[u8]) -> u64
+    requires { length bytes.now ≤ 65536 }
     ensures { result ≡ as_count (before + sum bytes.now) }
 {
-    let mut total = before;
+    let mut total = 0;
     for byte in bytes {
-        total = total.saturating_add(u64::from(*byte));
+        total += u64::from(*byte);
     }
-    total
+    before.saturating_add(total)
 }

@@ -1,11 +1,11 @@
-// The words against answers from outside, uncut and in chunks of 1 and of 2.
+// The words against answers from outside, uncut and in chunks of 1 and of 2, and over all cuts of six elements.
 ghost use Rattle.std.specs.Prelude.{◌≡◌, ◌<◌, ◌≤◌, IfOk, IsTrue, MatchOption, Some, length};
 ghost use Rattle.cd_step.specs.Parts.{IsChunk, Wait};
 ghost use Rattle.cd_elemwise.specs.Words.{kind_of};
 ghost use Rattle.cd_elemwise.specs.Stages.{seen_stage, stage_fits};
 
 use crate::plan::planned;
-use crate::slice::sum_behind;
+use crate::slice::{front, passing, sum_behind};
 use crate::state::State;
 use crate::{ElemStage, elem_stage};
 use cd_elem::{ByteList, CharList, Chunk, Class, ClassName, ElemWord, Items, Sort, Value};
@@ -197,9 +197,49 @@ fn check_row(alloc: Global, line: &str, size: usize) -> Result<(), Fail>
     requires { 0 < size }
 {
     let fields = parts_of(alloc, line, ";")?;
+    let input = parts_of(alloc, part(&fields, 2), "/")?;
+    check_input(alloc, line, &input, size)
+}
+
+/// The numbers of a text, with a cut behind each whose bit is set.
+fn cut_by(alloc: Global, text: &str, mask: u32) -> Result<Vec<String>, Fail> {
+    let mut chunks: Vec<String> = Vec::new(alloc);
+    let mut chunk = String::new(alloc);
+    let mut bits = mask;
+    for number in text.split(" ") {
+        if !chunk.is_empty() {
+            if bits % 2 == 1 {
+                chunks.push(chunk)?;
+                chunk = String::new(alloc);
+            } else {
+                chunk.push_str(" ")?;
+            }
+            bits /= 2;
+        }
+        chunk.push_str(number)?;
+    }
+    chunks.push(chunk)?;
+    Ok(chunks)
+}
+
+/// One row, in chunks that are cut so.
+fn check_cut(alloc: Global, line: &str, mask: u32) -> Result<(), Fail> {
+    let fields = parts_of(alloc, line, ";")?;
+    let chunks = cut_by(alloc, part(&fields, 2), mask)?;
+    let mut input: Vec<&str> = Vec::new(alloc);
+    for chunk in &chunks {
+        input.push(chunk.as_str())?;
+    }
+    check_input(alloc, line, &input, 100)
+}
+
+/// One row, where the input is given in these parts, and each of them in chunks of this size.
+fn check_input(alloc: Global, line: &str, input: &[&str], size: usize) -> Result<(), Fail>
+    requires { 0 < size }
+{
+    let fields = parts_of(alloc, line, ";")?;
     let word = word_of(&parts_of(alloc, part(&fields, 0), " ")?)?;
     let sort = sort_of(part(&fields, 1));
-    let input = parts_of(alloc, part(&fields, 2), "/")?;
     let gives = numbers_of(alloc, part(&fields, 3))?;
     let ends = part(&fields, 4) == "end";
     let answer = part(&fields, 5);
@@ -207,7 +247,7 @@ fn check_row(alloc: Global, line: &str, size: usize) -> Result<(), Fail>
     let need = number_of(part(&fields, 7))? as usize;
     let net = number_of(part(&fields, 8))? as usize;
     let mut run = new_run(alloc);
-    let ended = run_word(alloc, word, sort, &input, size, ends, &mut run)?;
+    let ended = run_word(alloc, word, sort, input, size, ends, &mut run)?;
     if run.given.as_slice() != gives.as_slice() {
         return Err(Fail::new(line));
     }
@@ -235,6 +275,47 @@ fn answers_from_outside(rt: HostRuntime) -> Result<(), Fail> {
         if !line.is_empty() {
             for size in [1, 2, 100] {
                 check_row(rt.alloc(), line, size)?;
+            }
+        }
+    }
+    Ok(())
+}
+
+/// Each word over an input of six elements, in the form of the rows from outside. The answers are made by hand.
+const SIX: &str = "\
+passE;bytes;1 2 3 4 5 6;1 2 3 4 5 6;end;unit;;7;6
+takeE 4;bytes;1 2 3 4 5 6;1 2 3 4;end;unit;;4;4
+takeE 9;chars;97 98 99 100 101 102;97 98 99 100 101 102;end;unit;;7;6
+takeWhileE digit;bytes;49 50 51 97 53 54;49 50 51;end;unit;;4;3
+filterE not digit;bytes;49 97 50 98 99 51;97 98 99;end;unit;;7;6
+mapE add 1;bytes;255 1 2 3 4 5;0 2 3 4 5 6;end;unit;;7;6
+mapE xor 32;bytes;65 66 67 68 69 70;97 98 99 100 101 102;end;unit;;7;6
+mapE rot13;chars;97 8364 90 122 48 110;110 8364 77 109 48 97;end;unit;;7;6
+repeatE 2;bytes;1 2 3 4 5 6;1 1 2 2 3 3 4 4 5 5 6 6;end;unit;;7;6
+repeatE 0;bytes;1 2 3 4 5 6;;end;unit;;7;6
+dropE 3;bytes;1 2 3 4 5 6;;end;unit;;3;3
+dropWhileE below 4;bytes;1 2 3 4 5 6;;end;unit;;4;3
+headE;chars;8364 2 3 4 5 6;;end;some char;8364;1;1
+peekE;bytes;9 2 3 4 5 6;;end;some byte;9;1;0
+lastE;bytes;1 2 3 4 5 6;;end;some byte;6;7;6
+lengthE;chars;1 2 3 4 5 6;;end;num;6;7;6
+sumE;bytes;255 255 255 255 255 255;;end;num;1530;7;6
+allE below 5;bytes;1 2 3 4 5 6;;end;false;;5;5
+allE below 9;bytes;1 2 3 4 5 6;;end;true;;7;6
+anyE not below 4;bytes;1 2 3 4 5 6;;end;true;;4;4
+anyE alpha;bytes;1 2 3 4 5 6;;end;false;;7;6
+nullE;bytes;1 2 3 4 5 6;;end;false;;1;0
+collectE 4;bytes;1 2 3 4 5 6;;end;bytes;1 2 3 4;4;4
+collectE 9;chars;1 2 3 4 5 6;;end;text;1 2 3 4 5 6;7;6
+sinkNull;bytes;1 2 3 4 5 6;;end;unit;;7;6
+";
+
+#[test]
+fn all_cuts_of_six_elements(rt: HostRuntime) -> Result<(), Fail> {
+    for line in SIX.split("\n") {
+        if !line.is_empty() {
+            for mask in 0..32 {
+                check_cut(rt.alloc(), line, mask)?;
             }
         }
     }
@@ -286,5 +367,38 @@ fn counts_stay_at_the_greatest_count(rt: HostRuntime) -> Result<(), Fail> {
         let (state, _) = planned(alloc, State::Length(before), &chunk)?;
         assert!(rt; matches!(state, State::Length(count) if count == after));
     }
+    Ok(())
+}
+
+fn class_of(what: ClassName) -> Class {
+    Class {
+        negated: false,
+        what,
+    }
+}
+
+/// Chunks that are long enough for a table.
+#[test]
+fn classes_of_long_chunks(rt: HostRuntime) -> Result<(), Fail> {
+    let alloc = rt.alloc();
+    let mut bytes = Items::new(alloc);
+    for number in 0..512_u32 {
+        bytes
+            .push((number % 256) as u8)
+            .map_err(|_| Fail::new("memory"))?;
+    }
+    let digits = passing(alloc, class_of(ClassName::Digit), bytes.as_slice())?;
+    assert_eq!(rt; digits.as_slice(), b"01234567890123456789".as_slice());
+    assert_eq!(rt;
+        front(class_of(ClassName::Below(255)), bytes.as_slice()),
+        255
+    );
+    let mut chars = Items::from_slice(alloc, &['7'; 300])?;
+    chars.extend_from_slice(&['\u{20ac}', '\u{20ad}'])?;
+    assert_eq!(rt; front(class_of(ClassName::Digit), chars.as_slice()), 300);
+    assert_eq!(rt;
+        front(class_of(ClassName::Below(0x20ad)), chars.as_slice()),
+        301
+    );
     Ok(())
 }

@@ -9,14 +9,14 @@ use Rattle.cd_lex.specs.declared.literal.Read.TheVariants.{Closes, Fails, Goes, 
 use Rattle.cd_lex.specs.Quotes.{read, escape_of, scalar_of, digit_of, pick, longer, found_from, plain}
 
 -- the value of what stands behind, if the closing quote is the last byte
-abbrev follow : Read → List ℕ → (Reading → Option (List ℕ)) → Option (List ℕ)
+abbrev pub follow : Read → List ℕ → (Reading → Option (List ℕ)) → Option (List ℕ)
 follow Closes cs more = no_more cs
 follow Fails cs more = None
 follow (Goes r) cs more = in_front [] (more r)
 follow (Byte b) cs more = in_front (b ∷ []) (more Plain)
 follow (Char c) cs more = in_front (encode_utf8 c) (more Plain)
 
-abbrev value_from : Reading → List ℕ → Option (List ℕ)
+abbrev pub value_from : Reading → List ℕ → Option (List ℕ)
 value_from r [] = None
 value_from r (c ∷ cs) = follow (read r c) cs (λ s. value_from s cs)
 
@@ -70,7 +70,7 @@ scanned [] r = none where
 scanned (c ∷ cs) r = over (value_from r) c cs refl (read r c) (λ ds. refl) (λ s. scanned cs s)
 
 -- The same by the definition.
-abbrev meant : Reading → List ℕ → Option (List ℕ)
+abbrev pub meant : Reading → List ℕ → Option (List ℕ)
 meant Plain cs = inside cs
 meant Escape cs = escaped cs
 meant Unicode cs = braced cs
@@ -121,7 +121,7 @@ module _ (c : ℕ) (cs : List ℕ) (k : Reading → Option (List ℕ)) (h : (s :
   in_digits true n v = to_scalar (nat_lt 0 n && scalar v) v
   in_digits false n v = few (nat_lt n 6) n v
 
-means : (cs : List ℕ) (r : Reading) → value_from r cs ≡ meant r cs
+pub means : (cs : List ℕ) (r : Reading) → value_from r cs ≡ meant r cs
 means [] Plain = refl
 means [] Escape = refl
 means [] Unicode = refl

@@ -1,9 +1,16 @@
 pub mod Closing
 pub mod Digits
+pub mod Escapes
 pub mod Finds
 pub mod Fronts
 pub mod Gaps
 pub mod Longest
 pub mod Nexts
+pub mod Numbers
+pub mod Parting
+pub mod Quotes
 pub mod Quoting
+pub mod SpelledWords
 pub mod Utf8
+pub mod Whole
+pub mod Written

@@ -13,10 +13,10 @@ use Rattle.cd_lex.specs.declared.literal.Read.{Read}
 use Rattle.cd_lex.specs.declared.literal.Read.TheVariants.{Closes, Fails, Goes, Byte, Char}
 use Rattle.cd_lex.specs.Quotes.{read, escape_of, scalar_of, digit_of, pick, longer, found_from}
 
-never : {A : Type 0} {x : A} → None ≡ Some x → ⊥
+pub never : {A : Type 0} {x : A} → None ≡ Some x → ⊥
 never e = cc
 
-same_some : {A : Type 0} {x y : A} → Some x ≡ Some y → x ≡ y
+pub same_some : {A : Type 0} {x y : A} → Some x ≡ Some y → x ≡ y
 same_some e = cc
 
 one_byte : (b : ℕ) → b < 128 → IsUtf8 (b ∷ [])
@@ -110,11 +110,11 @@ picked (Byte b) more f e low sc h = lengthened (b ∷ []) (more Plain) f e (one_
 picked (Char c) more f e low sc h = lengthened (encode_utf8 c) (more Plain) f e (IsUtf8-encode c (sc c refl)) (h Plain)
 
 -- Bytes past ASCII.
-abbrev AllHigh : List ℕ → Type 0
+abbrev pub AllHigh : List ℕ → Type 0
 AllHigh [] = Unit {0}
 AllHigh (b ∷ bs) = (128 ≤ b) × AllHigh bs
 
-differs : (c d : ℕ) → (c ≡ d → ⊥) → (c == d) ≡ false
+pub differs : (c d : ℕ) → (c ≡ d → ⊥) → (c == d) ≡ false
 differs c d h = grind (arith, nat_tests)
 
 apart : (b d : ℕ) → 128 ≤ b → d < 128 → (b == d) ≡ false
@@ -172,7 +172,7 @@ high_when : (b : Bool) (xs ys : List ℕ) → b ≡ false → AllHigh ys → All
 high_when true xs ys e a = let f : ⊥ = cc in absurd f
 high_when false xs ys e a = a
 
-high_encode : (k : ℕ) → 128 ≤ k → AllHigh (encode k)
+pub high_encode : (k : ℕ) → 128 ≤ k → AllHigh (encode k)
 unfolding encode
 high_encode k h = high_when (nat_lt k 128) (k ∷ []) _ (le-ltb k 128 h) (past_ascii (nat_lt k 2048) (nat_lt k 65536) k)
 
@@ -180,7 +180,7 @@ stops : (r : Reading) (bs rest : List ℕ) (f : List ℕ × ℕ) → ((b : ℕ) 
 stops r [] rest f h a l e = omega arith
 stops r (b ∷ bs) rest f h a l e = fails r b (bs ++ rest) f (h b a.0) e
 
-both : (p q : Bool) → (p && q) ≡ true → (p ≡ true) × (q ≡ true)
+pub both : (p q : Bool) → (p && q) ≡ true → (p ≡ true) × (q ≡ true)
 both true q e = (refl, e)
 both false q e = let f : ⊥ = cc in absurd f
 

@@ -5,8 +5,11 @@ mod lexemes;
 mod literal;
 mod reserved;
 mod scan;
+mod spelling;
+mod words;
 
 pub use lexemes::{Lexed, lex};
+pub use spelling::push_spaced;
 
 #[cfg(test)]
 mod tests;

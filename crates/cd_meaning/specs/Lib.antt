@@ -1,5 +1,6 @@
 pub mod Base
 pub mod Canonical
+pub mod CanonicalText
 pub mod CanonicalWords
 pub mod Cases
 pub mod Classes
@@ -29,6 +30,7 @@ pub mod Seals
 pub mod Sections
 pub mod Sorts
 pub mod Sources
+pub mod Spelling
 pub mod Splitters
 pub mod Stream
 pub mod TakeForm

@@ -1,4 +1,5 @@
--- Rows of the grammar of scripts, by computation: tokens, reserved words and literals, and the limits. The forms stand below.
+-- Rows of the grammar of scripts, by computation: tokens, reserved words and literals, and the limits. The forms and the canonical texts stand below.
+pub mod CanonicalTexts
 pub mod Derivations
 use Rattle.std.specs.Prelude.{ℕ, ◌≡◌, refl, ◌^◌, ◌-◌, false, List, [], ◌∷◌, ◌++◌, Option, Some, None, codes}
 use Rattle.cd_elem.specs.declared.script.Join.TheVariants as join

@@ -8,20 +8,20 @@ use Rattle.std.proofs.lemmas.Option.{slice_get-get_or}
 use Rattle.cd_elem.specs.declared.script.Stmt.{Stmt}
 use Rattle.cd_elem.specs.declared.token.Token.{Token}
 use Rattle.cd_elem.specs.declared.token.Lexeme.{Lexeme}
-use Rattle.cd_script.specs.declared.state.State.{State}
-use Rattle.cd_script.specs.declared.state.Place.{Place}
-use Rattle.cd_script.specs.declared.state.Place.TheVariants as place
+use Rattle.cd_parser.specs.declared.state.State.{State}
+use Rattle.cd_parser.specs.declared.state.Place.{Place}
+use Rattle.cd_parser.specs.declared.state.Place.TheVariants as place
 use Rattle.cd_script.specs.declared.reader.Reader.{Reader}
 use Rattle.cd_script.specs.declared.refusal.ScriptRefusal.{ScriptRefusal}
 use Rattle.cd_script.specs.declared.refusal.ScriptRefusal.TheVariants.{Syntax, Limit, NoMemory}
 use Rattle.cd_meaning.specs.Grammar.{IsScript}
-use Rattle.cd_script.specs.Machine.{next, run, start, step}
+use Rattle.cd_parser.specs.Machine.{next, run, start, step}
 use Rattle.cd_meaning.specs.Limits.{limit_of, limit_behind, limit_at, limit_here, IsWithinLimits, brackets_with, bounds_behind, open_brackets, bounds_after, every_number}
 use Rattle.cd_meaning.specs.Refusals.{tokens, PassesTo}
 use Rattle.cd_script.specs.Answers.{Answer, Answers, Gives}
 use Rattle.cd_script.specs.Reading.{IsBehind, Advances, Reads, bounds_of, ending, ending_at}
-use Rattle.cd_script.proofs.Stands.{is_script}
-use Rattle.cd_script.proofs.Fronts.{front, only, no_front, apart}
+use Rattle.cd_parser.proofs.Stands.{is_script}
+use Rattle.cd_parser.proofs.Fronts.{front, only, no_front, apart}
 
 abbrev place_of : Option State → Place
 place_of None = place.Sealing []

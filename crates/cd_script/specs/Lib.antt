@@ -1,3 +1,3 @@
 pub mod Answers
-pub mod Machine
+pub mod Ranges
 pub mod Reading

@@ -7,15 +7,15 @@ use Rattle.cd_elem.specs.declared.token.LimitKind.{LimitKind}
 use Rattle.cd_meaning.specs.Limits as limits
 use Rattle.cd_meaning.specs.Limits.{limit_of, limit_at, brackets_with, bounds_behind, open_brackets, bounds_after}
 use Rattle.cd_meaning.specs.Refusals.{tokens}
-use Rattle.cd_script.specs.declared.state.State.{State}
-use Rattle.cd_script.specs.declared.state.Place.{Place}
-use Rattle.cd_script.specs.declared.state.Place.TheVariants as place
+use Rattle.cd_parser.specs.declared.state.State.{State}
+use Rattle.cd_parser.specs.declared.state.Place.{Place}
+use Rattle.cd_parser.specs.declared.state.Place.TheVariants as place
 use Rattle.cd_script.specs.declared.limits.Bounds.{Bounds}
 use Rattle.cd_script.specs.declared.reader.Reader.{Reader}
 use Rattle.cd_script.specs.declared.refusal.ScriptRefusal.{ScriptRefusal}
 use Rattle.cd_script.specs.declared.refusal.ScriptRefusal.TheVariants.{Syntax, Limit, NoMemory}
 use Rattle.cd_script.specs.Answers.{Answer}
-use Rattle.cd_script.specs.Machine.{step, run}
+use Rattle.cd_parser.specs.Machine.{step, run}
 
 -- the bounds of the definitions
 abbrev pub bounds_of : Bounds → limits.Bounds

@@ -1,18 +1,16 @@
-//! The script language: from texts to trees.
+//! The script language: from texts to trees, and from trees to their canonical texts.
 #![tactic(auto)]
 
-mod heads;
-mod joining;
+mod canonical;
+mod canonical_words;
 mod limits;
-mod machine;
+mod printing;
 mod reader;
 mod refusal;
-mod stack;
-mod state;
 mod text;
-mod words;
 
 pub use cd_elem::LimitKind;
+pub use printing::print;
 pub use refusal::ScriptRefusal;
 pub use text::parse;
 

@@ -5,14 +5,13 @@ ghost use Rattle.cd_meaning.specs.Grammar.{IsScript};
 ghost use Rattle.cd_meaning.specs.Limits.{IsWithinLimits, every_number};
 ghost use Rattle.cd_meaning.specs.Refusals.{tokens};
 ghost use Rattle.cd_script.specs.Answers.{Answers, Gives};
-ghost use Rattle.cd_script.specs.Machine.{start};
+ghost use Rattle.cd_parser.specs.Machine.{start};
 ghost use Rattle.cd_script.specs.Reading.{Reads, bounds_of, ending, is_between};
 
 use crate::limits::{Bounds, bounds_behind, brackets_with, every_number, limit_of};
-use crate::machine::step;
 use crate::refusal::ScriptRefusal;
-use crate::state::{Place, State};
 use cd_elem::{Items, Lexeme, NoMemory, Script};
+use cd_parser::{Place, State, step};
 use std::alloc::Global;
 
 /// The parser behind some tokens.

@@ -1,6 +1,7 @@
 // From a text to its tree.
-ghost use Rattle.std.specs.Prelude.{◌≤◌, List, length};
+ghost use Rattle.std.specs.Prelude.{◌≤◌, List, length, IfOk};
 ghost use Rattle.cd_elem.specs.declared.script.Stmt.{Stmt};
+ghost use Rattle.cd_meaning.specs.Canonical.{IsTreeWithin};
 ghost use Rattle.cd_meaning.specs.Refusals.{IsText};
 ghost use Rattle.cd_script.specs.Answers.{Gives, Parses};
 
@@ -17,6 +18,8 @@ pub fn parse(alloc: Global, text: &str) -> Result<Script, ScriptRefusal>
     ensures exact { Parses text.now result }
     // A script within the limits is read, unless memory runs out.
     ensures only { (tree : List Stmt) → IsText text.now tree → Gives tree result }
+    // A tree has the form of a script's, and its canonical text is within the limits too.
+    ensures within { IfOk result (λ tree. IsTreeWithin tree) }
 {
     match lex(alloc, text) {
         Err(NoMemory) => Err(ScriptRefusal::NoMemory),

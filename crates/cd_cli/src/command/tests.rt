@@ -5,6 +5,9 @@ use cd_world::{Event, Fail, MemoryFile, MemoryFiles, MemoryWorld};
 use std::alloc::AllocError;
 use std::test;
 
+mod examples;
+mod show;
+
 /// A script of the form.
 const ROW: &str = "run sourceFile \"a\" | takeE 5 | stdout;\n";
 

@@ -2,7 +2,7 @@
 use super::{Answer, answers};
 use cd_elem::LimitKind;
 
-static CASES: [(&str, Answer); 75] = [
+static CASES: [(&str, Answer); 50] = [
     ("$ ( sourceFile \"a\" {", Answer::Syntax(0)),
     (
         "let\ns0\n=\nseal\nsourceFile\n\"d\"\n;\nfeed\ns0\n|\nexactlyE\nutf8\n{\n|",
@@ -16,7 +16,7 @@ static CASES: [(&str, Answer); 75] = [
         "run  mark  \"m1\"  {  sourceFile  \"a\"  }  |  \u{c}exactlyE  1  {  utf8  }  |  zipSink  (  collectE  7  ,  (  filterE  below  9000  |  peekE  )  )",
         Answer::Syntax(43),
     ),
-    ("", Answer::Read),
+    ("", Answer::Canonical("")),
     (
         "run sourceFile \"a\" seal | lines 4 | flat | nullE ;",
         Answer::Syntax(19),
@@ -187,103 +187,6 @@ static CASES: [(&str, Answer); 75] = [
     (
         "run  text  |  utf8Encode  |  mapE  255  |  {  lastE  }  ;",
         Answer::Syntax(11),
-    ),
-    (
-        "run # x\nmark # x\n\"m1\" # x\n{ # x\ntexts # x\n[ # x\n\"b😀😀\" # x\n] # x\n} # x\n| # x\nintersperse # x\n\"b\" # x\n| # x\nunlines # x\n| # x\nzipSink # x\n( # x\n{ # x\n|+ # x\n; # x\nanyE # x\nnot # x\nis # x\n\"\\n\" # x\n; # x\ncollectE # x\n2 # x\n} # x\n, # x\ndropE # x\n9 # x\n) # x\n;",
-        Answer::Syntax(154),
-    ),
-    (
-        "run zipSource ( replicate 2 \"\\n\" , { sourceFile \"d\" ; sourceFile \"d\" } | lines 9 , \"\\n\" ) | ; null",
-        Answer::Syntax(92),
-    ),
-    (
-        "run\n(\n{\nsourceFile\n\"a\"\n;\n}\n\"a\"\n}\n|\nfilterE\nlower\n)\n|\nmapE\nadd\n255\n|\n{\nallE\nnot\nalpha\n;\nnullE\n;\ncollectE\n50\n}\n;\nrun\nmark\n\"m4\"\n{\nzipSource\n(\nsourceFile\n\"missing\"\n|\nlines\n9\n,\nsourceFile\n\"a\"\n|\nlines\n9\n,\n\"ab\"\n)\n}\n|\ntake\n1\n|\nsinkNull\n;",
-        Answer::Syntax(25),
-    ),
-    (
-        "run\n(\nsourceFile\n\"d\"\n|\nexactlyE\n0\n{\nbase64Encode\n}\n)\n{\nutf8\n}\n|\nsplit\n\",\"\n1\n|\ncollect\n50\n;",
-        Answer::Syntax(53),
-    ),
-    (
-        "run  sourceFile  \"b\"  |  exactlyE  0  {  zipSink  (  anyE  alpha  ,  collectE  2  )  }  ;  run  stdin  |  lines  1  |  (  exactly  9  {  pass  }  |&  (  zipSink  collect  1  version  drop  2  )  )  ;",
-        Answer::Syntax(162),
-    ),
-    (
-        "run  sourceFile  \"b\"  |  zipSink  (  exactlyE  2  {  peekE  }  ,  {  collectE  50  é  ;  anyE  ot  space  ;  lengthE  }  )  ;",
-        Answer::Syntax(83),
-    ),
-    (
-        "run # x\nsourceFile # x\n\"c\" # x\n| # x\nrepeatE # x\n2 # x\n; # x\nrepeatE # x\n2 # x\n} # x\n| # x\nzipSink # x\n( # x\nsinkFile # x\n\"x6\" # x\n, # x\n( # x\nutf8Lenient # x\n| # x\ndropWhileE # x\nnot # x\nis # x\n\"\\n\" # x\n) # x\n) # x\n;",
-        Answer::Syntax(61),
-    ),
-    (
-        "run ( sourceFile \"c\" | { split \"a\" 1 # c\n ; split \"1\" 2 } ) | pass | ( ( takeWhile ends \"-\" | intersperse \"x\\n\" ) | ( takeWhile begins \",,\\u{7f}\" | filter take empty ) ) | collect 1 ;",
-        Answer::Syntax(155),
-    ),
-    (
-        "let  s0  =  seal  (  (  sourceFile  \"b\"  |  base64Decode  )  |  repeatE  2  )  ;  run  sourceFile  \"c\"  |  sinkFile  \"x2\"  ;  close  s0  |  exactlyE  2  {  (  utf8  |  =  (  sinkNull  ,  sinkNull  )  ;",
-        Answer::Syntax(168),
-    ),
-    (
-        "run sourceFile \"b\" | lineE { utf8Lenient } | ( utf8Encode | { takeE 2 } ) | mapE rot13 | ( { filterE not below 65 ; passE ; mapE rot13 } | lineE { collectE 50 } ) ; run sourceFile \"d\" | utf8 | ( ( passE | lines",
-        Answer::Syntax(210),
-    ),
-    (
-        "run\nsourceFile\n\"b\"\n|\nhexDecode\n|\nsumE\n;\nrun\nsourceFile\n\"a\"\n|\nstdout\n;\nrun\n(\nsourceFile\n\"a\"\n|\nlines\n,\nmark\n\"m3\"\n{\nsourceFile\n\"c\"\n}\n|\nlines\n9\n,\n\"€\"\n)\n|\ndropWhile\nempty\n;",
-        Answer::Syntax(99),
-    ),
-    (
-        "run replicate 0 \"aa\" | pass | zipConduit ( zipConduit ( flat , flat ) , ( repeat 3 | unlines ) ) | zipSink ( ( takeWhileE digit | anyE newline ) zipSink ( collectE 50 , dropE 5 ) ) ;",
-        Answer::Syntax(145),
-    ),
-    (
-        "let\ns0\n=\nseal\nsourceFile\n\"d\"\n;\nclose\ns0\n|\nexactlyE\n5\n{\n(\npassE\n|<\n(\nfilterE\nspace\n|&\nstdout\n)\n)\n}\n;\nrun\n(\nsourceFile\n\"b\"\n|\nxxxxxxxxxxxxxxxxxxxxxxxxxxxxxxxxxxxxxxxxxxxxxxxxxxxxxxxxxxxxxxxxx\nchunksOf\n1\n)\n|\nzipSink\n(\nlast\n,\n(\nunlines\n|\nsinkFile\n\"x9\"\n)\n)\n;",
-        Answer::Syntax(123),
-    ),
-    ("run\nsourceFile\n\"a\"", Answer::Syntax(18)),
-    (
-        "run\n(\ntext\n\"\\r\"\n|\n(\nfilterE\nnot\nalpha\n|\nsplit;\n\"a\"\n1\n)\n|\nlength\n;",
-        Answer::Syntax(45),
-    ),
-    (
-        "run # x\ntext # x\n| # x\n( # x\nutf8Encode # x\n|? # x\n( # x\nfilterE # x\nnot # x\nalpha # x\n| # x\nsinkFile # x\n\"x1\" # x\n) # x\n;",
-        Answer::Syntax(17),
-    ),
-    (
-        "let s0 = sourceFile \"a\" | mark \"m1\" { hexEncode } ; run bytes \"b\" | exact 1 | unlines | hexEncode | stdout ; feed s0 | dropWhileE not lower ;",
-        Answer::Syntax(9),
-    ),
-    (
-        "run  mark  \"m1\"  {  sourceFile  \"a\"  }  |  mark  \"m2\"  {  filterE  is  \"-\"  }  |  (  split  \"-\"  3  |  pass  )  |  drop  3  ;  run  sourceFile  \"d\"  |  (  lines  1  |  pass  )  |  exactly  2  {  flat  }  |  mark",
-        Answer::Syntax(211),
-    ),
-    (
-        "run ( ( texts [ ] | pass ) | zipConduit ( intersperse \"0\" , takeWhile shorte| 3 ) ) | repeat 2 | map reverse | ( intersperse \"€é-\" |& collect 50 ) ; run replicate ; 2 \"0\" | peek ;",
-        Answer::Syntax(70),
-    ),
-    (
-        "run  zipSource  (  mark  \"m1\"  netWrite  {  sourceFile  \"c\"  }  |  lines  9  ,  stdin  |  lines  9  s0  ,  \"aa\"  )  |  repeat  3  |  unlines  |  stdout  ;",
-        Answer::Syntax(31),
-    ),
-    (
-        "run\nsourceFile\n\"a\"\n|\nbase64Decode\n|\nrepeatE\n3\n|\nsinkFile\n\"x1\"\n;\nrun\nsourceFile\n\"b\"\n|\nutf8\n|\n(\nmapE",
-        Answer::Syntax(98),
-    ),
-    (
-        "feed run { sourceFile \"d\" ; ( range 1 0 | flat ) } | { lines 8 ; lines 3 ; { anyE is \"\\r\" ; exact 5 } } | flat | ( mark \"m2\" { mapE rot13 } | split \"1\" 3 ) | drop 3 ;",
-        Answer::Syntax(5),
-    ),
-    (
-        "hold k0 = mark \"m1\" ; run ( { sourceFile \"missing\" ; stdin } | ( mapE xor 32 |= takeE 1 ) ) | utf8;| takeWhileE = \"é\" | lines 1 | collect 5 ;",
-        Answer::Syntax(99),
-    ),
-    (
-        "run # x\ntext # x\n\"ab,aa\" # x\n| # x\nsplit # x\n\"-\" # x\n4 # x\n| # x\nrepeat # x\n( # x\nmark # x\n\"m1\" # x\n{ # x\nrepeat # x\n1 # x\n} # x\n, # x\nfilter # x\nends # x\n\"0€\\u{7f}\" # x\n) # x\n| # x\nunlines # x\n| # x\npeekE # x\n;",
-        Answer::Syntax(76),
-    ),
-    (
-        "run { ( sourceFile version 2 ; | base64Decode ) ; sourceFile \"a\" } \"\\u{41}\" dropE 2 stdin",
-        Answer::Syntax(19),
     ),
 ];
 

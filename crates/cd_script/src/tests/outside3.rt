@@ -2,285 +2,197 @@
 use super::{Answer, answers};
 use cd_elem::LimitKind;
 
-static CASES: [(&str, Answer); 75] = [
+static CASES: [(&str, Answer); 50] = [
     (
-        "run\nreplicate\n5\n\"😀\"\n|\n\"(\nflat\n|\n(\n|\ncollectE\n50\n)\n)\n;",
-        Answer::Syntax(25),
+        "let s0 = seal blocks [ \"0\" , \"é\" ] ; run sourceFile \"d\" headE | filterE",
+        Answer::Syntax(57),
     ),
     (
-        "run  text  \"\\\",,\"  |  (  mapE  rot13  |  split  \"é\"  3  )  |  flat  |  exactly  1  {  map  suffix  \"a\"  }  |  exactly  4  {  (  map  suffix  \"€\"  |  sinkNull  )  }  ;",
-        Answer::Read,
+        "run\nsourceFile\n\"d\"\n|\nexactlyE\n4\n{\nexactlyE\n1\n{\nhexEncode\n}\n}\n|\n{\ntakeE\n2\ntakeE\n3\n}\n|\npassE\n|\nanyE\nalnum\n;",
+        Answer::Syntax(73),
     ),
-    ("let s0 = seal sourceFile \"a\" ;", Answer::Read),
-    ("run  sourceFile  \"b\"  |  collectE  1  ;", Answer::Read),
     (
-        "run\nsourceFile\n\"a\"\n|\nsplit\n\"a\"\n1\n|\nlast\n;\nrun\nsourceFile\n\"c\"\n|\nexact\n5\n|\ncollect\n50\n;\nrun\ntext\n\"é\"\n|\nutf8Encode\n|\nlineE\n# c\n\n{\nanyE\nis\n\"a\"\n}\n;",
-        Answer::Read,
+        "sourceFile # x\n\"d\" # x\n| # x\nsplit # x\n\"\\r\" # x\n4 # x\n| # x\nsinkNull # x\n;",
+        Answer::Syntax(0),
     ),
+    ("run text \"\\\"\" | repeatE | (", Answer::Syntax(24)),
     (
-        "run zipSource ( sourceFile \"d\" | lines 9 , { sourceFile \"a\" ; sourceFile \"c\" } | lines 9 , \"\" ) | ( map reverse |= filter not empty ) | zipSink ( ( map suffix \"é\" | collect 18446744073709551616 ) , mark \"m1\" { head } ) ;",
-        Answer::Limit(LimitKind::Number, 174),
+        "let k0 = seal zipSource ( mark \"m1\" { sourceFile \"b\" } | lines 9 , blocks [ \"€\" ] , \"é\" ) | flat ; run sourceFile | nullE ; let s1 = seal sourceFile \"b\" ; run stdin | mapE xor 1 | utf8 | ( passE | lineE { peekE } ) scope ; feed s0 | lineE { lastE } ;",
+        Answer::Syntax(117),
     ),
     (
-        "run\n(\n{\nstdin\n;\nsourceFile\n\"b\"\n}\n|\ntakeE\n3\n)\n|\n(\nlineE\n{\nrepeatE\n2\n}\n|\nsplit\n\"\\n\"\n2\n)\n|\n(\nzipConduit\n(\nunlines\n,\nflat\n)\n|<\nstdout\n)\n;",
-        Answer::Read,
+        "run  sourceFile  \"a\"  |  utf8  |  exactlyE  4  {  (  {  utf8Encode  ;  peekE  }  |&  lastE  )  }  ;  run  zipSource  (  sorceFile  \"b\"  |  lines  9  ,  65537  \"m2\"  {  sourceFile  \"c\"  }  |  lines  9  ,  \"\\\"\"  )  |  unlines  |  sinkFile  \"x3\"  ;",
+        Answer::Syntax(120),
     ),
     (
-        "run  sourceFile  \"a\"  |  takeE  0  |  passE  |  chunksOf  4  |  {  exactly  2  {  peek  }  ;  {  drop  7  ;  drop  3  ;  collect  50  }  }  ;  run  sourceFile  \"a\"  |  exact  80  |  collect  50  ;  run  sourceFile  \"c\"  |  (  split  \"1\"  1  |  drop  5  )  ;",
-        Answer::Read,
+        "run mark \"m2\" { mark \"m1\" { stdin } | } stdout ;",
+        Answer::Syntax(38),
     ),
     (
-        "run  zipSource  (  (  sourceFile  \"a\"  |  repeatE  1  )  |  lines  9  ,  (  stdin  |  takeWhileE  lower  )  |  lines  9  ,  \"aa\\u{7f}x\\n\"  )  |  map  suffix  \"\"  |  unlines  |  lastE  ;",
-        Answer::Read,
+        "run sourceFile \"d\" ; \"ourceFile \"a\" } | passE | 2 { split \"a\" 1 } | last ;",
+        Answer::Syntax(21),
     ),
     (
-        "run\nsourceFile\n\"a\"\n|\nutf8Lenient\n|\n{\nexactlyE\n7\n{\npeekE\n}\n;\nexactlyE\n3\n{\npeekE\n}\n;\n{\ndropE\n9\n;\nanyE\nnot\nis\n\"é\"\n|=\ncollectE\n50\n}\n}\n;",
-        Answer::Read,
+        "run bytes \"\\n\" | { takeE 5 ; { base64Encode ; stdout } } | filterE not ; \"1\" | sumE ; run stdin | takeE 2 | anyE alpha ;",
+        Answer::Syntax(71),
     ),
     (
-        "run\nrange\n18446744073709551615\n18446744073709551613\n|\ntake\n4\n|\ntake\n3\n|\nunlines\n|\nlineE\n{\n(\nbase64Decode\n|\nsinkFile\n\"x1\"\n)\n}\n;",
-        Answer::Read,
+        "run\nbytes\n\"\\r\"\n|\nlastE\n;\nrun\nstdin\n|\n(\ntakeWhileE\nnewline\n|\nsplit\n\"\\r\"\n5\n)\n|\nexactly\n1\n{\n(\npass\n|\nmap\nreverse\nmap\n)\n}\n|\n(\ntake\n4\n|\n(\nmap\nsuffix\n\"😀\\\\-\"\n|\nnull\n)\n)\n;",
+        Answer::Syntax(110),
     ),
     (
-        "run  zipSource  (  sourceFile  \"c\"  |  lines  9  ,  (  sourceFile  \"d\"  |  chunksOf  2  )  ,  \"-\"  )  |  passE  |  {  allE  space  }  ;",
-        Answer::Read,
+        "0run  mark  \"m1\"  {  zipSource  (  sourceFile  ;  |  lines  9  ,  range  1  0  ,  \"a\"  )  }  |  length  ;",
+        Answer::Syntax(0),
     ),
     (
-        "run  sourceFile  \"a\"  |  chunksOf  0  |  dropWhile  ends  \"-\"  ;",
-        Answer::Limit(LimitKind::Number, 35),
+        "let s0 = seal stdin | ( mapE rot13 |= filterE upper ) ; feed s0 | lastE ; run ( text \"0b0\" | mapE rot13 ) | ( mapE rot13 |= ( utf8Encode | utf8Lenient ) ) | chunksOf 1 | ( map reverse |= map prefix \"\" ) | drop zipSink ;",
+        Answer::Syntax(210),
     ),
     (
-        "run\nstdin\n|\n(\n{\nhexDecode\n;\nstdout\n}\n|&\nsinkFile\n\"x3\"\n)\n;",
-        Answer::Read,
+        "run  sourceFile  \"b\"  |  exactlyE  4  {  (  lines  |  5  map  reverse  )  }  |  take  9  |  {  pass  }  |  (  flat  |  (  exact  65536  |  null  )  )  ;  run  sourceFile  \"d\"  |  takeE  3  |  sinkNull  ;",
+        Answer::Syntax(51),
     ),
     (
-        "run ( blocks [ \"\\u{7f}\" ] | pass ) | # c\n takeWhile ends \"aa-\\u{7f}\" | ( intersperse \"ab\" |? mark \"m;1\" { dropWhile not ends \"b€a\" } ) ;",
-        Answer::Read,
+        "run mark { sourceFile \"d\" } | exactlyE 3 { repeatE 2 } | utf8Lenient | ( mapE rot13 | dropE 2 ) ;",
+        Answer::Syntax(9),
     ),
     (
-        "run sourceFile \"c\" | utf8Lenient | filterE lower | takeE 7 | zipSink ( ( utf8Encode | stdout ) , zipSink ( allE is \",\" , collectE 1 ) ) ;",
-        Answer::Read,
+        "run # x\nsourceFile # x\n\"missing\" # x\n| # x\nbase64Decode # x\n| # x\n| # x\nstdout # x\n;",
+        Answer::Syntax(66),
     ),
     (
-        "run  mark  \"m1\"  {  sourceFile  \"a\"  }  |  chunksOf  1  |  (  tee  (  repeat  1  |<  sinkNull  )  )  |  map  reverse  |  length  ;",
-        Answer::Read,
+        "run # x\nstdin # x\n| # x\nmapE # x\nadd # x\n128 # x\n| # x\nsinkFile",
+        Answer::Syntax(63),
     ),
     (
-        "run\ntexts\n[\n\"ab\"\n,\n\"-\"\n]\n|\n(\nmap\nsuffix\n\"\\n\"\n|=\nunlines\n)\n|\nrepeatE\n2\n|\n(\n{\nsplit\n\"é\"\n5\n}\n|\nlast\n)\n;",
-        Answer::Read,
+        "run\n(\n(\nsourceFile\n\"c\"\n|\nmapE\nhexEncode\n)\n|\n(\nrepeatE\n0\nmapE\nadd\n2\n)\n)\n|\nutf8\n|\nutf8Encode\n|\ndropWhileE\nnot\nalnum\n;",
+        Answer::Syntax(30),
     ),
     (
-        "run range 1 0 | ( ( map prefix \"x\\n\\\\é\" |= map reverse ) |+ ( intersperse \"\\u{7f}\" | pass ) ) | exactly 65536 { exactly 9 { takeWhile begins \",\" } } | unlines | sinkFile \"x2\" ;",
-        Answer::Read,
+        "run zipSource ( sourceFile \"b\" | lines 9 , sourceFile \"b\" | lines 9 , \",\" ) | { flat ; flat ; zipConduit ( flat , utf8 ) } | ( ( split \"-\" 65536 | flat ) | { repeatE 3 ; hexDecode } ) | sinkFile \"x1\" ; run ( sourceFile \"missing\" | ( utf8 |",
+        Answer::Syntax(239),
     ),
     (
-        "run mark \"m2\" { sourceFile \"b\" } | split \"\\r\" 4 | flat | mark \"m3\" { { nullE ; headE ; collectE 1 } } ;",
-        Answer::Read,
+        "let  s0  =  seal  sourceFile  \"a\"  |  passE  ;  run",
+        Answer::Syntax(51),
     ),
     (
-        "run # x\nreplicate # x\n1 # x\n\"-\" # x\n| # x\npass # x\n| # x\nmap # x\nsuffix # x\n\"é\" # x\n| # x\\passE # x\nfilter # x\nnot # x\nbegins # x\n\"x\\n\" # x\n| # x\ndrop # x\n0 # x\n;",
-        Answer::Read,
+        "let\n2\ns0\n=\nseal\n{\nsourceFile\n\"d\"\n;\n(\nstdin\n|\npassE\n)\n}\n;\nrun\nsourceFile\n\"b\"\n|\ntakeWhileE\nis\n\"-\"\n|\nmark\n\"m1\"\n{\npassE\n}\n|\nsplit\n\"\\n\"\n2\n|\n(\n{\nunlines\n;\nunlines\n}\n|\nstdout\n)\n;\nclose\ns0\n|\nlineE\n{\nsinkFile\n\"x5\"\n}\n;",
+        Answer::Syntax(4),
     ),
     (
-        "run  bytes \"a\" |  zipSource  (  zipSource  (  stdin  |  lines  9  ,  sourceFile  \"b\"  |  lines  9  ,  \"\\u{7f}\"  )  ,  sourceFile  \"b\"  |  lines  9  ,  \"-\"  )  |  peek  ;",
-        Answer::Read,
+        "run sourceFile \"b\" |< mark \"m1\" { ( lines 4096 | unlines ) } | split \"1\" 1 | drop 3 ;",
+        Answer::Syntax(61),
     ),
     (
-        "run # x\nbytes # x\n\"\\r\" # x\n| # x\n( # x\ntakeE # x\n1 # x\n| # x\nutf8 # x\n) # x\n| # x\nheadE # x\n;",
-        Answer::Read,
+        "run mark \"m2\" mark { \"m1\" { sourceFile \"b\" tee } | lineE { split \",\" 5 } | null ; run sourceFile \"a\" | hexEncode | sumE ; run stdin | utf8 | ( utf8Encode | ( utf8Lenient |? collectE 50 ) ) ;",
+        Answer::Syntax(14),
     ),
     (
-        "run  zipSource  (  (  replicate  9  \"-x\\n\\r\"  |  map  prefix  \"-\"  )  ,  (  sourceFile  \"b\"  |  mapE  xor  255  )  |  lines  9  ,  \"0x\\né\"  )  |  unlines  |  lines  5  |  (  map  prefix  \"😀é\\\"\"  |  (  map  suffix  \"b\"  |=  map  reverse  )  )  |  peek  ;",
-        Answer::Read,
+        "run\nsourceFile\n\"b\"\n|\nhexEncode\n|\nhexDecode\n|\nlineE\n{\n(\nlines\n4\n|\ndropWhile\nends\n)\n}\n;",
+        Answer::Syntax(80),
     ),
     (
-        "run # c\n mark \"m2\" { mark \"m1\" { sourceFile \"d\" } } | repeatE 2 | mark \"m3\" { { chunksOf 3 } } | map suffix \"aa\" | collect 0 ;",
-        Answer::Read,
+        "run  sourceFile  \"d\"  |  (  mapE  2  |=  utf8  )  |  (  takeE  0  |  repeatE  1  )  |  (  (  split",
+        Answer::Syntax(34),
     ),
     (
-        "run  mark  \"m1\"  {  {  sourceFile  \"d\"  ;  sourceFile  \"c\"  }  }  |  repeatE  0  |  (  split  \"\\r\"  80  |  (  flat  |  sumE  )  )  ;",
-        Answer::Read,
+        "run range 18446744073709551613 18446744073709551612 | repeat 3 | take 2 | ( exactly 3 lines { takeWhile empty } | { drop 4 } ) ;",
+        Answer::Syntax(86),
     ),
-    ("hold k0 = mark \"m1\" ;", Answer::Read),
-    ("run  sourceFile  \"a\"  |  lengthE  ;", Answer::Read),
     (
-        "run\nmark\n\"m1\"\n{\nzipSource\n(\nsourceFile\n\"b\"\n|\nlines\n9\n,\nsourceFile\n\"b\"\n|\nlines\n9\n,\n\"\\u{7f}éb\"\n)\n}\n|\n(\ntake\n2\n# c\n\n|\nmap\nsuffix\n\"ab\"\n)\n|\ncollect\n50\n;",
-        Answer::Read,
+        "let\ns0\n=\n{\nseal\nmark\n\"m1\"\n{\nsourceFile\n\"c\"\n}\n;\n(\nsourceFile\n\"d\"\n|\nm\u{c}apE\nrot13\n)\n}\n;\nrun\n(\n{\nstdin\n;\nsourceFile\n\"d\"\n}\n|\nutf8\n)\n|\ntakeE\n4\n|\n(\nmapE\nrot13\n|\nutf8Encode\n)\n|\nutf8\n|\n(\nexactlyE\n3\n{\nsplit\n\"1\"\n3\n}\n|+\n{\npeek\n;\nlast\n}\n)\n;\nfeed\ns0\n|\nlastE\n;",
+        Answer::Syntax(9),
     ),
     (
-        "run sourceFile \"b\" | passE | mapE add 32 | peekE ;",
-        Answer::Read,
+        "run { ( sourceFile \"d\" | takeWhileE ) alpha ; ( sourceFile \"c\" | mapE xor 255 ) } | nullE ; hold k1 = mark \"m2\" ; release k1 ; run mark ( \"m3\" { range 0 0 } | sinkNull ;",
+        Answer::Syntax(36),
     ),
+    ("run  stdin  |  {  lines  3  }  |  peek", Answer::Syntax(38)),
     (
-        "run mark \"m1\" { texts [ \"\\n\" ] } | takeWhile shorter 1 | pass | last ;",
-        Answer::Read,
+        "run\nzipSource\n(\nsourceFile\n\"d\"\n|\nlines\nheadE\n9\n,\nreplicate\n5\n\"\\\"\"\n,\n\"x\\n\"\n)\n|\n(\nmap\nsuffix\n\"é,aa\"\n|=\nflat\n)\n|\nlastE\n;",
+        Answer::Syntax(39),
     ),
     (
-        "run text \"0\" | { { utf8Encode ; utf8Encode } | { takeWhileE not alpha ; lastE ; collectE 50 ; sinkFile \"x3\" } } | sinkFile \"x4\" ;",
-        Answer::Read,
+        "let s0 = seal { \"b\" ; ( sourceFile \"d\" | mapE rot13 ) } ; feed s0 | stdout ; close s0 | lineE { ( split \"\\r\" 5 | ( intersperse \"a\" | pass ) ) | { ( map \"😀\" |< drop 2 ) ; ( map reverse | collect 4 ) } } ;",
+        Answer::Syntax(16),
     ),
     (
-        "run  replicate  0  \"b\"  |  (  take  5  |&  head  )  ;  let  s0  =  seal  mark  \"m3\"  {  stdin  }  |  split  \"1\"  80  ;  feed  s0  |  length  ;  run  sourceFile  \"c\"  |  lines  80  |  collect  50  ;",
-        Answer::Read,
+        "run stdin | ( takeE 3 | mapE rot13 ) | utf8Lenient | ( mapE rot13 |= takeE 9 ) | anyE upper ; run { sourceFile \"a\" ; sourceFile \"b\" } | netWrite | split \"1\" 4 | ( ( unlines | utf8 ) | zipSink ( allE not hexdigi; , collectE 50 ) ) ;",
+        Answer::Syntax(136),
     ),
     (
-        "run mark \"m1\" { replicate 9 \"\\r\" } | dropWhile shorter 65536 ;",
-        Answer::Read,
+        "run stdin | ( mapE rot13 | { dropE 4 ; passE } ) | dropWhileE newline",
+        Answer::Syntax(69),
     ),
-    ("run bytes \"b\" # c\n | stdout ;", Answer::Read),
     (
-        "run replicate 2 \"-\" | collect 4 ; run sourceFile \"b\" | nullE ; run ( sourceFile \"d\" | repeatE 1 ) | mark \"m4\" { lines # c\n 1 } | unlines | { { collectE 50 ; sinkFile \"x6\" ; stdout } ; sinkFile \"x8\" } ; run sourceFile \"b\" | split \"\\r\" 4 | peek ;",
-        Answer::Read,
+        "run zipSource ( { sourceFile \"c\" ; sourceFi|e let } lines 9 , \"\" | lines 9 , \"ab\" ) | sinkNull ;",
+        Answer::Syntax(35),
     ),
     (
-        "run # x\nsourceFile # x\n\"d\" # x\n| # x\ncollectE # x\n50 # x\n;",
-        Answer::Read,
+        "let  s0  =  seal  bytes  \"b\"  ;  feed  s0  |  exactlyE  0  {  stdout  }  ;  run  sourceFile  \"b\"  |  split  \"1\"  3  |  sinkNull  ;  feed  s0  |  lineE  {  {  collectE  50  version  }  ;",
+        Answer::Syntax(172),
     ),
     (
-        "run # x\nmark # x\n\"m1\" # x\n{ # x\nsourceFile # x\n\"b\" # x\n} # x\n| # x\nfilterE # x\nnot # x\nlower # x\n| # x\ncollectE # x\n50 # x\n;",
-        Answer::Read,
+        "run  {  (  sourceFile  \"c\"  |  |=  split  \"\\r\"  3  )  ;  (  sourceFile  \"c\"  |  split  \"\"  ;  )  }  |  pass  |  exactly  4  {  take  3  }  |  drop  3  ;",
+        Answer::Syntax(31),
     ),
     (
-        "run\ntexts\n[\n]\n|\nintersperse\n\"\\r\"\n|\ndrop\n5\n;\nrun\nsourceFile\n\"b\"\n|\ntakeE\n5\n|\ntakeE\n9\n|\n{\n(\npassE\n|\nlines\n1\n)\n}\n|\nexactly\n0\n{\nlast\n}\n;\nrun\nreplicate\n30\n\"-\"\n|\n(\nflat\n|\nfilterE\nnot\nupper\n)\n|\nheadE\n;",
-        Answer::Read,
+        "run stdin | split |< 80 ) | flat | split \",\" 4 | head ; run sourceFile \"d\" | ( mapE rot13 | base64Encode ) | takeWhileE lower | ( passE | ( mapE rot13 | collectE 50 ) ) ;",
+        Answer::Syntax(18),
     ),
     (
-        "run ( zipSource ( sourceFile \"c\" | lines 9 , sourceFile \"c\" | lines 9 , \"😀0x\\n\" ) | ( map suffix \"0\" | pass ) ) | zipSink ( ( flat | peekE ) , zipSink ( sinkNull , last ) ) ;",
-        Answer::Read,
+        "run { ( stdin | takeWhileE hexdigit ) ; sourceFile \"c\" } | repeatE 2 | ( { peekE ; split \"1\" 8 } |& collect 50 ) ; run sourceFile \"b\" | { allE space ; ( mapE xor 0 | sinkFile \"x3\" ) } ; run sourceFile \"b\" | base64Decode | { ( hexDecode | allE k0 lower ) } ;",
+        Answer::Syntax(243),
     ),
     (
-        "run sourceFile \"c\" | bytes \"a\" | filterE lower | ( split \"a\" 4 | exactly 2 { length } ) ;",
-        Answer::Read,
+        "run\nmark\n\"m5\"\n{\n{\nbytes\n\"b\"\n;\nsource\"File\n\"c\"\n}\n}\n|\nfeed\nsumE\n;",
+        Answer::Syntax(30),
     ),
     (
-        "run  sourceFile  \"b\"  |  base64Encode  |  utf8  # c\n  |  utf8Encode  |  stdout  ;",
-        Answer::Read,
+        "run sourceFile \"a\" | let 3 | filter not empty | ( pass | length ) ;",
+        Answer::Syntax(21),
     ),
     (
-        "run  mark  \"m2\"  {  sourceFile  \"c\"  }  ;",
-        Answer::Read,
+        "run mark \"m2\" { mark \"m1\" { sourceFile \"missing\" } } | ( takeWhileE hexdigit | utf8Lenient ) | headE ; flat run sourceFile \"a\" | hexEncode | split \"-\" 3 | { zipSink ( peek , collect 50 ) ; ( drop 3 , length ) } ;",
+        Answer::Syntax(103),
     ),
-    ("run\nsourceFile\n\"a\"\n|\ncollectE\n50\n;", Answer::Read),
     (
-        "run\nsourceFile\n\"b\"\n|\nexactlyE\n1\n{\nheadE\n}\n;",
-        Answer::Read,
+        "run\nzipSource\n(\nsourceFile\n\"b\"\n|\nlines\n9\n,\nzipSource\n(\nsourceFile\n\"missing\"\n|\nlines\n9\n,\nstdin\n|\nlines\n9\n,\n\",0aa\"\n)\n,\n\",\"\n)\n|\n(\nunlines\n|\nlineE\n{\npassE\n}\n)\n|\ntake\n;",
+        Answer::Syntax(162),
     ),
     (
-        "run  sourceFile  \"b\"  |  dropWhileE  is  \"1\"  ;",
-        Answer::Read,
+        "run é \"d\" | ( exactlyE 7 { exact 1 } | { last ; map prefix \"aa\" } ) | ( map suffix \"x\\n\\\"é\" | { collect 50 } ) ;",
+        Answer::Syntax(4),
     ),
     (
-        "run  stdin  |  (  passE  |  base64Decode  )  |  collectE  1  ;",
-        Answer::Read,
+        "run # x\nsourceFile # x\n\"d\" # x\n| # x\n# c\n # x\n3 # x\n;",
+        Answer::Syntax(46),
     ),
     (
-        "run # x\nblocks # x\n[ # x\n\"aa\" # x\n, # x\n\"b\" # x\n] # x\n| # x\n{ # x\n( # x\nmap # x\nreverse # x\n| # x\nnull # x\n) # x\n; # x\n( # x\nrepeat # x\n0 # x\n| # x\ndrop # x\n9 # x\n) # x\n} # x\n;",
-        Answer::Read,
+        "run sourceFile \"d\" | lines { 4 | exactly 9 { { repeat 3 3 } } | drop 0 ;",
+        Answer::Syntax(27),
     ),
     (
-        "run stdin | base64Decode | ( { lines 3 } | collect 50 ) ;",
-        Answer::Read,
+        "run { zipSource ( stdin | not lines 9 , sourceFile \"d\" |",
+        Answer::Syntax(26),
     ),
+    ("run\nmark", Answer::Syntax(8)),
     (
-        "run ( sourceFile \"c\" | takeWhileE hexdigit ) | takeWhileE not space | { { sinkNull ; sumE ; lastE } ; lines 4 ; lines 80 } | unlines | zipSink ( ( passE | sumE ) , zipSink ( nullE , lengthE ) ) ;",
-        Answer::Read,
+        "let s0 = seal texts [ \"b\" ] | pass ; feed s0 | ( repeat 2 |& ( take 2 |+ peek ) ) ; run sourceFile \"b\" | hexEncode | ( mapE rot13 |= lines 3 ) | dropWhile empty ; hold k0 = mark \"m1\" ; close s0 | repeat 3 | drop 1 ; hold k1 s0 = mark \"m2\" ;",
+        Answer::Syntax(224),
     ),
     (
-        "run  (  bytes  \"é\"  |  {  filterE  below  9000  }  )  |  dropWhileE  newline  ;",
-        Answer::Read,
+        "run # x\nmark # x\n\"m1\" # x\n{ # x\nblocks # x\n[ # x\n, # x\n\"😀\" # x\n] # x\n} # x\n| # x\nsinkNull # x\n; # x\n[ # x\nmark # x\n\"m2\" # x\n{ # x\nsourceFile",
+        Answer::Syntax(49),
     ),
     (
-        "run\nbytes\n\",\"\n|\nexactlyE\n3\n{\nutf8\n}\n;",
-        Answer::Read,
+        "run stdin | repeatE 2 | { mark \"m1\" { collectE 9 } ; filterE not is \"\\n\" } | mark \"m3\" { filterE newline } || peekE ;",
+        Answer::Syntax(108),
     ),
     (
-        "let  s0  =  seal  (  stdin  |  hexEncode  )  ;",
-        Answer::Read,
-    ),
-    (
-        "run sourceFile \"b\" | ( { stdout ; repeatE 0 } |< sinkFile \"x2\" ) ; run mark \"m3\" { { stdin |= sourceFile \"c\" } } | { repeatE 2 ; base64Encode } | collectE 4 ;",
-        Answer::Read,
-    ),
-    (
-        "run  sourceFile  \"a\"  |  (  mapE  xor  255  |=  (  chunksOf  3  |  map  prefix  \"0ab-\"  )  )  |  (  map  reverse  |?  repeat  0  )  |  unlines  |  headE  ;",
-        Answer::Read,
-    ),
-    (
-        "run  text  \"é\"  |  lengthE  ;  run  sourceFile  \"d\"  |  nullE  ;  run  sourceFile  \"d\"  |  repeatE  0  |  stdout  ;  run  stdin  |  lineE  {  {  anyE  not  alpha  }  }  ;",
-        Answer::Read,
-    ),
-    (
-        "run\nsourceFile\n\"d\"\n|\n(\nchunksOf\n5\n|\nzipSink\n(\npeek\n,\nsinkNull\n)\n)\n;",
-        Answer::Read,
-    ),
-    ("run ( sourceFile \"ab\" | passE ) | peekE ;", Answer::Read),
-    (
-        "hold # x\n# c\n # x\nk0 # x\n= # x\nmark # x\n\"m1\" # x\n;",
-        Answer::Read,
-    ),
-    (
-        "run sourceFile \"d\" | chunksOf 3 | collect 5  ;",
-        Answer::Read,
-    ),
-    (
-        "run zipSource ( zipSource ( sourceFile \"a\" | lines 9 , sourceFile \"d\" | lines 9 , \"\" ) , blocks [ \"€\" ] , \",aax\\n\" ) | map reverse | exactly 4 { repeat 2 } | zipConduit ( flat , flat ) | ( ( lines 5 | flat ) | dropWhileE lower ) ;",
-        Answer::Read,
-    ),
-    (
-        "run  zipSource  (  mark  \"m1\"  {  sourceFile  \"c\"  }  |  lines  9  ,  sourceFile  \"d\"  |  bytes \"a\" |  lines  9  ,  \"\\u{7f}aa\\n\"  )  |  map  reverse  |  (  unlines  |&  {  sinkFile  \"x2\"  }  )  ;",
-        Answer::Read,
-    ),
-    (
-        "run  sourceFile  \"a\"  |  sinkFile  \"x1\"  ;  run  sourceFile  \"c\"  |  stdout  ;  run  sourceFile  \"a\"  |  # c\n  hexEncode  |  takeE  1  |  sinkFile  \"x4\"  ;",
-        Answer::Read,
-    ),
-    (
-        "run zipSource ( mark \"m1\" { sourceFile \"d\" } | lines 9 , bytes \"0\" | lines 9 , \"ab\" ) | ( repeat 2 |& { length ; collect 50 ; last } ) ;",
-        Answer::Read,
-    ),
-    (
-        "run sourceFile \"missing\" | ( takeWhileE not upper | zipSink ( stdout , lastE ) ) ;",
-        Answer::Read,
-    ),
-    (
-        "run range 95 94 |+ drop 0 ; run ( range 0 12 | ( map reverse | map reverse ) ) | pass | pass | collect 50 ; run sourceFile \"b\" | ( mapE rot13 |= ( mapE add 0 |= lines 1 ) ) | intersperse \"a\" | length ;",
-        Answer::Read,
-    ),
-    (
-        "run ( zipSource ( sourceFile \"b\" | lines 09 , sourceFile \"b\" lines 9 , \"\\\"\" ) | zipConduit ( intersperse \"--\\r\" , repeat 1 ) ) | intersperse not \"a\" | last ;",
-        Answer::Limit(LimitKind::Number, 41),
-    ),
-    (
-        "run sourceFile \"b\" | filterE upper | collectE 3 ;",
-        Answer::Read,
-    ),
-    (
-        "run\n# c\n\nsourceFile\n\"d\"\n|\nallE\nnot\nlower\n;",
-        Answer::Read,
-    ),
-    (
-        "run\n(\nsourceFile\n\"c\"\n|\n(\nlines\n2\n|\nfilter\nends\n\"\\r\"\n)\n)\n|\nexactly\n1\n{\n(\ntake\n2\n|<\ndrop\n1\n)\n}\n;",
-        Answer::Read,
-    ),
-    (
-        "run sourceFile \"a\" | exactlyE 0 { takeWhileE space } | zipSink ( anyE alnum , stdout ) ;",
-        Answer::Read,
-    ),
-    (
-        "run sourceFile \"a\" | exactlyE 2 { base64Encode } | ( takeWhileE alpha | exact 4 ) | ( zipConduit ( pass , take 1 ) | { head ; repeat 0 } ) | drop 3 ;",
-        Answer::Read,
-    ),
-    (
-        "run # x\nsourceFile # x\n\"c\" # x\n| # x\nchunksOf # x\n# c\n # x\n2 # x\n| # x\nnull # x\n;",
-        Answer::Read,
-    ),
-    (
-        "run\nzipSource\n(\nsourceFile\n\"c\"\n|\nlines\n9\n,\nsourceFile\n\"c\"\n|\nlines\n9\n,\n\"€\"\n)\n|\n{\n(\nmap\nsuffix\n\"x\\n\"\n|\nhead\n)\n;\n# c\n\nrepeat\n1\n}\n|\ncollect\n2\n;\nrun\nsourceFile\n\"c\"\n|\nrepeatE\n1\n|\nhexEncode\n|\nsplit\n\"a\"\n1\n|\nlength\n;",
-        Answer::Read,
-    ),
-    (
-        "run\nmark\n\"m1\"\n{\n(\nsourceFile\n\"b\"\n|\nlength\n)\n}\n|\nmapE\nrot13\n|\nmapE\nrot13\n|\n{\nutf8Encode\n;\nutf8Encode\n}\n|\nstdout\n;",
-        Answer::Read,
+        "run\nsourceFile\n|?\n|\ntakeWhileE\nlower\n|\nlines\n1\n|\nlast\n;\nrun\nrange\n95\n107\n|\ntake\n0\n|\ncollect\n50\n;",
+        Answer::Syntax(15),
     ),
 ];
 

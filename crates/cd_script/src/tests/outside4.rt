@@ -2,303 +2,266 @@
 use super::{Answer, answers};
 use cd_elem::LimitKind;
 
-static CASES: [(&str, Answer); 75] = [
+static CASES: [(&str, Answer); 50] = [
     (
-        "hold\nk0\n=\nmark\n\"m1\"\n;\nrun\n(\nmark\n\"m2\"\n{\nsourceFile\n\"a\"\n}\n|\nsplit\n\"\\r\"\n3\n)\n|\ntake\n5\n|\nlength\n;\nrun\nbytes \"a\" |\n(\nsourceFile\n\"a\"\n|\n(\nhexEncode\n|\nhexEncode\n)\n)\n|\nutf8\n|\nfilterE\nnewline\n|\nsplit\n\"-\"\n2\n|\nlast\n;\nrelease\nk0\n;",
-        Answer::Read,
+        "run\nreplicate\n5\n\"😀\"\n|\n\"(\nflat\n|\n(\n|\ncollectE\n50\n)\n)\n;",
+        Answer::Syntax(25),
     ),
     (
-        "let s0 = seal replicate 5 \"ab\" ; close s0 | ( ( map suffix \"b\" |= unlines ) | zipSink ( collectE 50 , sinkNull ) ) ;",
-        Answer::Read,
-    ),
-    ("hold netWrite = mark \"m1\" ;", Answer::Read),
-    (
-        "run # x\nrange # x\n18446744073709551613 # x\n18446744073709551614 # x\n|= # x\ncollect # x\n50 # x\n;",
-        Answer::Read,
+        "run  text  \"\\\",,\"  |  (  mapE  rot13  |  split  \"é\"  3  )  |  flat  |  exactly  1  {  map  suffix  \"a\"  }  |  exactly  4  {  (  map  suffix  \"€\"  |  sinkNull  )  }  ;",
+        Answer::Canonical(
+            "run text \"\\\",,\" | (mapE rot13 | split \"é\" 3) | flat | exactly 1 { map suffix \"a\" } | exactly 4 { map suffix \"€\" | sinkNull };\n",
+        ),
     ),
     (
-        "let  s0  =  seal  zipSource  (  {  sourceFile  \"c\"  ;  sourceFile  \"d\"  }  |  lines  9  ,  range  1  1  ,  \",\"  # c\n  )  ;  run  sourceFile  \"a\"  |  split  \",\"  4  |  length  ;  run  sourceFile  \"c\"  |  lineE  {  split  \"-\"  2  }  |  collect  3  ;",
-        Answer::Read,
+        "let s0 = seal sourceFile \"a\" ;",
+        Answer::Canonical("let s0 = seal sourceFile \"a\";\n"),
     ),
     (
-        "run\n(\nreplicate\n9\n\"\\r\"\n|\ntakeWhile\nshorter\n7\n)\n|\npass\n|\nzipSink\n(\n(\nrepeat\n3\n|\nlast\n)\n,\n(\nbytes \"a\" |\ntakeWhile\nnot\nends\n\"b\"\n|\ncollect\n50\n)\n)\n;",
-        Answer::Read,
+        "run  sourceFile  \"b\"  |  collectE  1  ;",
+        Answer::Canonical("run sourceFile \"b\" | collectE 1;\n"),
     ),
     (
-        "let\ns0\n=\nseal\nzipSource\n(\nbytes\n\"ab\"\n|\nlines\n9\n,\nsourceFile\n\"a\"\n|\nlines\n9\n,\n\"é\"\n)\n;\nrun\nzipSource\n(\nsourceFile\n\"d\"\n|\nlines\n9\n,\nmark\n\"m8\"\n{\nstdin\n}\n|\nlines\n9\n,\n\"aa\"\n)\n|\nexactly\n18446744073709551615\n{\nintersperse\n\",\"\n}\n|\nsinkNull\n;",
-        Answer::Read,
+        "run\nsourceFile\n\"a\"\n|\nsplit\n\"a\"\n1\n|\nlast\n;\nrun\nsourceFile\n\"c\"\n|\nexact\n5\n|\ncollect\n50\n;\nrun\ntext\n\"é\"\n|\nutf8Encode\n|\nlineE\n# c\n\n{\nanyE\nis\n\"a\"\n}\n;",
+        Answer::Canonical(
+            "run sourceFile \"a\" | split \"a\" 1 | last;\nrun sourceFile \"c\" | exact 5 | collect 50;\nrun text \"é\" | utf8Encode | lineE { anyE is \"a\" };\n",
+        ),
     ),
     (
-        "let\ns0\n=\nseal\nblocks\n[\n\"a\"\n,\n\"aa\"\n]\n|\n(\ntake\n3\n|\n(\ntake\n2\n|\nunlines\n)\n)\n;",
-        Answer::Read,
+        "run zipSource ( sourceFile \"d\" | lines 9 , { sourceFile \"a\" ; sourceFile \"c\" } | lines 9 , \"\" ) | ( map reverse |= filter not empty ) | zipSink ( ( map suffix \"é\" | collect 18446744073709551616 ) , mark \"m1\" { head } ) ;",
+        Answer::Limit(LimitKind::Number, 174),
     ),
     (
-        "run  (  sourceFile  \"d\"  |  {  repeatE  1  ;  takeWhileE  hexdigit  }  )  |  utf8  |  headE  ;",
-        Answer::Read,
+        "run\n(\n{\nstdin\n;\nsourceFile\n\"b\"\n}\n|\ntakeE\n3\n)\n|\n(\nlineE\n{\nrepeatE\n2\n}\n|\nsplit\n\"\\n\"\n2\n)\n|\n(\nzipConduit\n(\nunlines\n,\nflat\n)\n|<\nstdout\n)\n;",
+        Answer::Canonical(
+            "run ({ stdin; sourceFile \"b\" } | takeE 3) | (lineE { repeatE 2 } | split \"\\n\" 2) | (zipConduit(unlines, flat) |< stdout);\n",
+        ),
     ),
     (
-        "run\nmark\n\"m1\"\n{\nstdin\n}\n|\ncollectE\n3\n;\nrun\n{\nsourceFile\n\"a\"\n;\nsourceFile\n\"c\"\n}\n|\nhexDecode\n|\ntakeWhileE\nalnum\n|\nsinkFile\n\"x5\"\n;",
-        Answer::Read,
+        "run  sourceFile  \"a\"  |  takeE  0  |  passE  |  chunksOf  4  |  {  exactly  2  {  peek  }  ;  {  drop  7  ;  drop  3  ;  collect  50  }  }  ;  run  sourceFile  \"a\"  |  exact  80  |  collect  50  ;  run  sourceFile  \"c\"  |  (  split  \"1\"  1  |  drop  5  )  ;",
+        Answer::Canonical(
+            "run sourceFile \"a\" | takeE 0 | passE | chunksOf 4 | { exactly 2 { peek }; { drop 7; drop 3; collect 50 } };\nrun sourceFile \"a\" | exact 80 | collect 50;\nrun sourceFile \"c\" | (split \"1\" 1 | drop 5);\n",
+        ),
     ),
     (
-        "run mark \"m1\" { texts [ \"€\" , \"-\" , \"€\" ] } | exactly 3 { unlines } | nullE ;",
-        Answer::Read,
+        "run  zipSource  (  (  sourceFile  \"a\"  |  repeatE  1  )  |  lines  9  ,  (  stdin  |  takeWhileE  lower  )  |  lines  9  ,  \"aa\\u{7f}x\\n\"  )  |  map  suffix  \"\"  |  unlines  |  lastE  ;",
+        Answer::Canonical(
+            "run zipSource((sourceFile \"a\" | repeatE 1) | lines 9, (stdin | takeWhileE lower) | lines 9, \"aa\\u{7f}x\\n\") | map suffix \"\" | unlines | lastE;\n",
+        ),
     ),
     (
-        "run # x\nmark # x\n\"m4\" # x\n{ # x\nmark # x\n\"m3\" # x\n{ # x\nsourceFile # x\n\"d\" # x\n} # x\n} # x\n| # x\nrepeatE # x\n1 # x\n| # x\n( # x\nstdin # x\n| # x\nzipSink # x\n( # x\ndropWhileE # x\nalpha # x\n, # x\nsinkNull # x\n) # x\n) # x\n;",
-        Answer::Read,
+        "run\nsourceFile\n\"a\"\n|\nutf8Lenient\n|\n{\nexactlyE\n7\n{\npeekE\n}\n;\nexactlyE\n3\n{\npeekE\n}\n;\n{\ndropE\n9\n;\nanyE\nnot\nis\n\"é\"\n|=\ncollectE\n50\n}\n}\n;",
+        Answer::Canonical(
+            "run sourceFile \"a\" | utf8Lenient | { exactlyE 7 { peekE }; exactlyE 3 { peekE }; { dropE 9; anyE not is \"é\" |= collectE 50 } };\n",
+        ),
     ),
     (
-        "# c\n # x\nrun # x\nsourceFile # x\n\"missing\" # x\n| # x\ntakeE # x\n3 # x\n| # x\nrepeatE # x\n0 # x\n| # ;\nmark # x\n\"m1\" # x\n{ # x\nallE # x\nnot # x\nupper # x\n} # x\n;",
-        Answer::Read,
+        "run\nrange\n18446744073709551615\n18446744073709551613\n|\ntake\n4\n|\ntake\n3\n|\nunlines\n|\nlineE\n{\n(\nbase64Decode\n|\nsinkFile\n\"x1\"\n)\n}\n;",
+        Answer::Canonical(
+            "run range 18446744073709551615 18446744073709551613 | take 4 | take 3 | unlines | lineE { base64Decode | sinkFile \"x1\" };\n",
+        ),
     ),
     (
-        "run stdin | base64Encode | takeE 7 | lines 5 ; let s0 = seal ( sourceFile \"missing\" | exactlyE 5 { lines 1 } ) ; run sourceFile \"b\" | utf8Lenient | headE ; hold k1 = mark \"m2\" ; feed s0 | collect 50 ;",
-        Answer::Read,
+        "run  zipSource  (  sourceFile  \"c\"  |  lines  9  ,  (  sourceFile  \"d\"  |  chunksOf  2  )  ,  \"-\"  )  |  passE  |  {  allE  space  }  ;",
+        Answer::Canonical(
+            "run zipSource(sourceFile \"c\" | lines 9, sourceFile \"d\" | chunksOf 2, \"-\") | passE | { allE space };\n",
+        ),
     ),
     (
-        "run stdin | takeWhileE not below 0 | mapE rot13 | anyE newline ; hold k1 = mark \"m2\" ;",
-        Answer::Read,
-    ),
-    (
-        "run  sourceFile  \"a\"  |  (  mapE  rot13  |=  filterE  below  256  )  |  lastE  ;",
-        Answer::Read,
-    ),
-    (
-        "let s0 = seal ( mark \"m1\" { sourceFile \"d\" } | repeatE 1 ) ;",
-        Answer::Read,
-    ),
-    (
-        "run sourceFile \"ab\" | ( lines 2 | { sinkNull ; collect 50 ; map prefix \"\\r\" } ) | takeWhile ends \",\\\\\" | take 5 | last ;",
-        Answer::Read,
-    ),
-    (
-        "run mark \"m1\" { bytes \"\\ra\\u{7f}\" } | base64Encode | exact 18446744073709551616 | map reverse | ( pass | ( repeat 0 |? peek ) ) ;",
-        Answer::Limit(LimitKind::Number, 59),
-    ),
-    (
-        "run # x\nsourceFile # x\n\"c\" # x\n| # x\n( # x\n{ # x\ndropE # x\n4 # x\n; # x\nlines # x\n65537 # x\n2 # x\n} # x\n{ # x\nflat # x\n} # x\n) # x\n| # x\ntee # x\n;",
-        Answer::Limit(LimitKind::Number, 81),
-    ),
-    (
-        "run # x\nsourceFile # x\n\"a\" # x\n| # x\ntakeE # x\n18446744073709551616 # x\n( # x\nutf8Lenient # x\n|? # x\nsinkNull # x\n)",
-        Answer::Limit(LimitKind::Number, 47),
-    ),
-    (
-        "run sourceFile \"c\" | zipSink ( ( split \"1\" 1 | peek ) , ( lines 00 80 | null ) ) ;",
-        Answer::Limit(LimitKind::Number, 64),
-    ),
-    (
-        "run # x\ntext # x\n\"\\\\\\\"\" # x\n| # x\nsplit # x\n\"a\" # x\n65537 # x\n| # x\nlast",
-        Answer::Limit(LimitKind::Number, 52),
-    ),
-    (
-        "run zipSource ( replicate 2 \"x\\n,,\" , mark \"m1\" { sourceFile \"c\" } | lines 9 , \"\\n\" ) | exactly 18446744073709551616 { map prefix \"\\\"é\\n\" } | head ;",
-        Answer::Limit(LimitKind::Number, 96),
-    ),
-    (
-        "run range 18446744073709551613 18446744073709551616 18446744073709551614 | repeat 1 | drop 7 ;",
-        Answer::Limit(LimitKind::Number, 31),
-    ),
-    (
-        "run\nzipSource\n(\nmark\n\"m1\"\n{\nstdin\n}\n|\nlines\n9\n,\nsourceFile\n\"d\"\n|\nlines\n0\n9\n,\n\"é\"\n)\n|\nmap\nreverse\n|\ndrop\n3\n;",
-        Answer::Limit(LimitKind::Number, 71),
-    ),
-    (
-        "run # x\nsourceFile # x\n\"c\" # x\n| # x\nutf8 # x\n| # x\nrepeatE # x\n18446744073709551616 # x\n|",
-        Answer::Limit(LimitKind::Number, 64),
-    ),
-    (
-        "run sourceFile \"d\" | lineE { { hexDecode ; stdout ; repeatE 65537 0 } } | ( repeatE 2 | stdout ) ;",
-        Answer::Limit(LimitKind::Number, 60),
-    ),
-    (
-        "run sourceFile \"a\" | { filterE not is \"\\n\" ; filterE not below 18446744073709551616 0 } | sinkFile \"x1\" ; run stdin | peekE ;",
-        Answer::Limit(LimitKind::Number, 63),
-    ),
-    (
-        "let # x\nxxxxxxxxxxxxxxxxxxxxxxxxxxxxxxxxxxxxxxxxxxxxxxxxxxxxxxxxxxxxxxxxx # x\ns0 # x\n= # x\nseal # x\nreplicate # x\n1099511627776 # x\n\"0\" # x\n; # x\nrun # x\n\"d\" # x\n| # x\n( # x\nmapE # x\nrot13 # x\n|= # x\ntakeE # x\n0 # x\n) # x\n| # x\n( # x\nexactlyE # x\n3",
-        Answer::Limit(LimitKind::Literal, 8),
-    ),
-    (
-        "run\nzipSource\n(\n{\nstdin\n;\nbytes\n\"\\n\"\n}\n|\nlines\n18446744073709551616\n9\n,\n(\nsourceFile\n\"d\"\n|\ntakeWhileE\nhexdigit\n)\n|\nlines\n9\n,\n\"\\r\"\n)\n|\ncollect\n50\n;",
-        Answer::Limit(LimitKind::Number, 47),
-    ),
-    (
-        "run ( sourceFile \"a\" | lines 18446744073709551616 3 ) | flat | { dropWhileE is \"\\;\" ; nullE } ;",
-        Answer::Limit(LimitKind::Number, 29),
-    ),
-    (
-        "let s0 = seal range 1 18446744073709551616 2 ; run sourceFile \"a\" | stdout ; close s0 | zipSink ( exactly 1 { head } , zipSink ( head , drop   ) ) ;",
-        Answer::Limit(LimitKind::Number, 22),
-    ),
-    (
-        "run zipSource ( bytes \"\\\"\" | lines 0 9 , stdin | lines 9 , \"\\\"\" ) | exactly 4 { exactly 3 { flat } } | stdout ; run mark \"m2\" { sourceFile \"b\" } | passE | zipSink ( { sinkFile \"x3\" ; dropE 9 ; collectE 50 } , exactlyE 2 | dropWhileE is \",\" } ) ;",
+        "run  sourceFile  \"a\"  |  chunksOf  0  |  dropWhile  ends  \"-\"  ;",
         Answer::Limit(LimitKind::Number, 35),
     ),
     (
-        "run\nsourceFile\n\"a\"\n|\nchunksOf\n1\n|\ntake\n5\n|\nexactly\n7\n{\n(\nintersperse\n\"\\\"\"\n|+\nsinkNull\n)\n}\n;\nrun\nbytes\n\"€\"\n|\nbase64Decode\n|\ntakeE\n18446744073709551616\n2\n|\n(\nutf8Lenient\n|\n(\nfilterE\nnewline\npeekE\n)\n)\n;\nrun\ntext\n\"😀\"\n|\ntakeWhileE\ndigit\n|\nnullE\n;",
-        Answer::Limit(LimitKind::Number, 131),
+        "run\nstdin\n|\n(\n{\nhexDecode\n;\nstdout\n}\n|&\nsinkFile\n\"x3\"\n)\n;",
+        Answer::Canonical("run stdin | ({ hexDecode; stdout } |& sinkFile \"x3\");\n"),
     ),
     (
-        "run  zipSource  (  bytes  \"\"  |  lines  0  ,  range  95  95  ,  \"aa\"  )  |  exactly  2  {  zipConduit  (  unlines  ,  flat  )  }  |  takeWhileE  hexdigit  headE  passE  |  sinkFile  \"x1\"  ;",
-        Answer::Limit(LimitKind::Number, 40),
+        "run ( blocks [ \"\\u{7f}\" ] | pass ) | # c\n takeWhile ends \"aa-\\u{7f}\" | ( intersperse \"ab\" |? mark \"m;1\" { dropWhile not ends \"b€a\" } ) ;",
+        Answer::Canonical(
+            "run (blocks [\"\\u{7f}\"] | pass) | takeWhile ends \"aa-\\u{7f}\" | (intersperse \"ab\" |? mark \"m;1\" { dropWhile not ends \"b€a\" });\n",
+        ),
     ),
     (
-        "run\ntext\n\"é\"\n|\nsplit\n\"a\"\n65537\n|\nbytes 0\"a\" |\nreverse\n|\nflat\n|\nlastE\n;",
-        Answer::Limit(LimitKind::Number, 26),
+        "run sourceFile \"c\" | utf8Lenient | filterE lower | takeE 7 | zipSink ( ( utf8Encode | stdout ) , zipSink ( allE is \",\" , collectE 1 ) ) ;",
+        Answer::Canonical(
+            "run sourceFile \"c\" | utf8Lenient | filterE lower | takeE 7 | zipSink(utf8Encode | stdout, zipSink(allE is \",\", collectE 1));\n",
+        ),
     ),
     (
-        "run\nsourceFile\n\"missing\"\n|\ntakeWhileE\nnot\nspace\n|\nutf8Lenient\n|\nmark\n\"m1\"\n{\nsplit\n\"\\n\"0\n5\n}\n|\ndrop\n;\n1000\nrun\nsourceFile\n\"b\"\n|\nexactlyE\n7\n{\nmark\n\"m2\"\n{\ncollectE\n50\n}\n}\n;",
-        Answer::Limit(LimitKind::Number, 86),
+        "run  mark  \"m1\"  {  sourceFile  \"a\"  }  |  chunksOf  1  |  (  tee  (  repeat  1  |<  sinkNull  )  )  |  map  reverse  |  length  ;",
+        Answer::Canonical(
+            "run mark \"m1\" { sourceFile \"a\" } | chunksOf 1 | tee(repeat 1 |< sinkNull) | map reverse | length;\n",
+        ),
     ),
     (
-        "run  mark  \"m1\"  {  zipSource  (  sourceFile  \"c\"  |  lines  09  ,  sourceFile  \"b\"  |  9  ,  \"ab\\r\"  )  }  |  sinkNull  ;",
-        Answer::Limit(LimitKind::Number, 61),
+        "run\ntexts\n[\n\"ab\"\n,\n\"-\"\n]\n|\n(\nmap\nsuffix\n\"\\n\"\n|=\nunlines\n)\n|\nrepeatE\n2\n|\n(\n{\nsplit\n\"é\"\n5\n}\n|\nlast\n)\n;",
+        Answer::Canonical(
+            "run texts [\"ab\", \"-\"] | (map suffix \"\\n\" |= unlines) | repeatE 2 | ({ split \"é\" 5 } | last);\n",
+        ),
     ),
     (
-        "hold k0 = mark \"m1\" ; release xxxxxxxxxxxxxxxxxxxxxxxxxxxxxxxxxxxxxxxxxxxxxxxxxxxxxxxxxxxxxxxxx k0 ; run sourceFile \"b\" | split \"\\n\" 8 | sinkNull ;",
-        Answer::Limit(LimitKind::Literal, 30),
+        "run range 1 0 | ( ( map prefix \"x\\n\\\\é\" |= map reverse ) |+ ( intersperse \"\\u{7f}\" | pass ) ) | exactly 65536 { exactly 9 { takeWhile begins \",\" } } | unlines | sinkFile \"x2\" ;",
+        Answer::Canonical(
+            "run range 1 0 | ((map prefix \"x\\n\\\\é\" |= map reverse) |+ (intersperse \"\\u{7f}\" | pass)) | exactly 65536 { exactly 9 { takeWhile begins \",\" } } | unlines | sinkFile \"x2\";\n",
+        ),
     ),
     (
-        "run bytes \"ab\" | split \"\\r\" 2 | collect 3 ; run ( texts [ \"😀\" , \"-\" ] | ( map suffix \"a\" | take 0 ) ) | flat | chunksOf 18446744073709551616 8 | dropWhile begins \"\" ;",
-        Answer::Limit(LimitKind::Number, 123),
+        "run mark \"m2\" { sourceFile \"b\" } | split \"\\r\" 4 | flat | mark \"m3\" { { nullE ; headE ; collectE 1 } } ;",
+        Answer::Canonical(
+            "run mark \"m2\" { sourceFile \"b\" } | split \"\\r\" 4 | flat | mark \"m3\" { { nullE; headE; collectE 1 } };\n",
+        ),
     ),
     (
-        "run mark \"m1\" { range 18446744073709551613 18446744073709551614 } | unlines | stdout ; run zipSource ( sourceFile \"c\" | lines 65537 , replicate 5 \",\" , \"x\\n\" ) | unlines | split \"\\r\" 80 | peek ;",
-        Answer::Limit(LimitKind::Number, 126),
+        "run # x\nreplicate # x\n1 # x\n\"-\" # x\n| # x\npass # x\n| # x\nmap # x\nsuffix # x\n\"é\" # x\n| # x\\passE # x\nfilter # x\nnot # x\nbegins # x\n\"x\\n\" # x\n| # x\ndrop # x\n0 # x\n;",
+        Answer::Canonical(
+            "run replicate 1 \"-\" | pass | map suffix \"é\" | filter not begins \"x\\n\" | drop 0;\n",
+        ),
     ),
     (
-        "run  zipSource  (  stdin  |  lines 09  ,  zipSource  (  sourceFile  \"c\"  lines  9  ,  sourceFile  \"b\"  |  lines  9  ,  \"b\"  )  ,  \"ab\"  )  |  pass  |  zipConduit  (  takeWhile  shorter  1  ,  pass  )  |  drop  3  ;",
-        Answer::Limit(LimitKind::Number, 35),
+        "run  bytes \"a\" |  zipSource  (  zipSource  (  stdin  |  lines  9  ,  sourceFile  \"b\"  |  lines  9  ,  \"\\u{7f}\"  )  ,  sourceFile  \"b\"  |  lines  9  ,  \"-\"  )  |  peek  ;",
+        Answer::Canonical(
+            "run bytes \"a\" | zipSource(zipSource(stdin | lines 9, sourceFile \"b\" | lines 9, \"\\u{7f}\"), sourceFile \"b\" | lines 9, \"-\") | peek;\n",
+        ),
     ),
     (
-        "hold # x\nk0 # x\n= # x\nmark # x\n\"m1\" # x\n; # x\nhold # x\nxxxxxxxxxxxxxxxxxxxxxxxxxxxxxxxxxxxxxxxxxxxxxxxxxxxxxxxxxxxxxxxxx # x\n\"a # x\nk1 # x\n= # x\nmark # x\n\"m2\" # x\n;",
-        Answer::Limit(LimitKind::Literal, 55),
+        "run # x\nbytes # x\n\"\\r\" # x\n| # x\n( # x\ntakeE # x\n1 # x\n| # x\nutf8 # x\n) # x\n| # x\nheadE # x\n;",
+        Answer::Canonical("run bytes \"\\r\" | (takeE 1 | utf8) | headE;\n"),
     ),
     (
-        "hold xxxxxxxxxxxxxxxxxxxxxxxxxxxxxxxxxxxxxxxxxxxxxxxxxxxxxxxxxxxxxxxxx = mark \"m1\" ; release k0 ; run sourceFile \"b\" |+ mapE xor 2 | ( utf8 | utf8Encode ) | hexEncode | lineE { ( utf8 | allE is \"1\" ) } ;",
-        Answer::Limit(LimitKind::Literal, 5),
+        "run  zipSource  (  (  replicate  9  \"-x\\n\\r\"  |  map  prefix  \"-\"  )  ,  (  sourceFile  \"b\"  |  mapE  xor  255  )  |  lines  9  ,  \"0x\\né\"  )  |  unlines  |  lines  5  |  (  map  prefix  \"😀é\\\"\"  |  (  map  suffix  \"b\"  |=  map  reverse  )  )  |  peek  ;",
+        Answer::Canonical(
+            "run zipSource(replicate 9 \"-x\\n\\r\" | map prefix \"-\", (sourceFile \"b\" | mapE xor 255) | lines 9, \"0x\\né\") | unlines | lines 5 | (map prefix \"😀é\\\"\" | (map suffix \"b\" |= map reverse)) | peek;\n",
+        ),
     ),
     (
-        "run ( sourceFile \"a\" | mark \"m1\" { filterE not digit } ) | lines 00 ] , | drop 3 ;",
-        Answer::Limit(LimitKind::Number, 65),
+        "run # c\n mark \"m2\" { mark \"m1\" { sourceFile \"d\" } } | repeatE 2 | mark \"m3\" { { chunksOf 3 } } | map suffix \"aa\" | collect 0 ;",
+        Answer::Canonical(
+            "run mark \"m2\" { mark \"m1\" { sourceFile \"d\" } } | repeatE 2 | mark \"m3\" { { chunksOf 3 } } | map suffix \"aa\" | collect 0;\n",
+        ),
     ),
     (
-        "run ( lines 65537 sourceFile \"b\" | { allE digit ; stdout ; chunksOf 2 } ) | takeWhile not shorter 3 | ( map suffix run | zipSink ( dropWhile shorter 0 , length ) ) ;",
-        Answer::Limit(LimitKind::Number, 12),
+        "run  mark  \"m1\"  {  {  sourceFile  \"d\"  ;  sourceFile  \"c\"  }  }  |  repeatE  0  |  (  split  \"\\r\"  80  |  (  flat  |  sumE  )  )  ;",
+        Answer::Canonical(
+            "run mark \"m1\" { { sourceFile \"d\"; sourceFile \"c\" } } | repeatE 0 | (split \"\\r\" 80 | (flat | sumE));\n",
+        ),
     ),
     (
-        "run\nsourceFile\n\"a\"\n|\nmark\n\"m1\"\n{\nrepeatE\n0\n}\n|\n{\n(\nmapE\nxor\n18446744073709551616\n|<\nsinkFile\n\"x2\"\n)\n;\nrepeatE\n3\n;\nmapE\nadd\n128\n}\n|\nhexEncode\n|\nanyE\nbelow\n9000\n;\nrun\ntext\n\"\\n\"\n|\npassE\n|\n{\ndropE\n1\n}\n;",
-        Answer::Limit(LimitKind::Number, 60),
+        "hold k0 = mark \"m1\" ;",
+        Answer::Canonical("hold k0 = mark \"m1\";\n"),
     ),
     (
-        "run\nzipSource\n(\nsourceFile\n\"d\"\n|\nlines\n9\n,\nsourceFile\n\"a\"\n|\nlines\n18446744073709551616\n9\n,\n\"é\"\n)\n|\nmap\nprefix\n\"x\\n\"\n|\nsinkNull\n;\nrun\n\"b\"\n|\nsplit\n\"\\r\"\n5\n|\n(\nmap\nprefix\n\"ab\\u{7f}\\n\"\n|=\npass\n)\n|\nhead\n;",
-        Answer::Limit(LimitKind::Number, 66),
+        "run  sourceFile  \"a\"  |  lengthE  ;",
+        Answer::Canonical("run sourceFile \"a\" | lengthE;\n"),
     ),
     (
-        "hold\nk0\n=\nmark\n\"m1\"\n;\nrun\nstdin\n|\nsplit\n\"\\r\"\n18446744073709551616\n5\n|\n(\n{\nmap\nprefix\n\"\\u{7f}\"\n;\ndropWhile\nnot\nbegins\n}\n\"\\r\"\n|\n(\nrepeat\n0\n|\nfilter\nnot\nends\n\"aa\"\n)\n)\n|\ncollect\n50\n;",
-        Answer::Limit(LimitKind::Number, 45),
+        "run\nmark\n\"m1\"\n{\nzipSource\n(\nsourceFile\n\"b\"\n|\nlines\n9\n,\nsourceFile\n\"b\"\n|\nlines\n9\n,\n\"\\u{7f}éb\"\n)\n}\n|\n(\ntake\n2\n# c\n\n|\nmap\nsuffix\n\"ab\"\n)\n|\ncollect\n50\n;",
+        Answer::Canonical(
+            "run mark \"m1\" { zipSource(sourceFile \"b\" | lines 9, sourceFile \"b\" | lines 9, \"\\u{7f}éb\") } | (take 2 | map suffix \"ab\") | collect 50;\n",
+        ),
     ),
     (
-        "run # x\nmark # x\n\"m1\" # x\n{ # x\nstdin # x\n} # x\n| # x\nchunksOf # x\n18446744073709551616 # x\n8 # x\n| # x\npass # x\n| # x\ncollect # x\n50 # ;x\n;",
-        Answer::Limit(LimitKind::Number, 67),
+        "run sourceFile \"b\" | passE | mapE add 32 | peekE ;",
+        Answer::Canonical("run sourceFile \"b\" | passE | mapE add 32 | peekE;\n"),
     ),
     (
-        "run  zipSource  (  sourceFile  \"b\"  |  lines  00  ,  sourceFile  \"a\"  |  9  lines  ,  \"ab\"  )  |  takeWhile  not  shorter  2  |  exactly  3  {  {  null  ;  collect  50  ;  collect  50  }  }  ;  run  stdin  |  anyE  is  \",\"  ;",
-        Answer::Limit(LimitKind::Number, 46),
+        "run mark \"m1\" { texts [ \"\\n\" ] } | takeWhile shorter 1 | pass | last ;",
+        Answer::Canonical(
+            "run mark \"m1\" { texts [\"\\n\"] } | takeWhile shorter 1 | pass | last;\n",
+        ),
     ),
     (
-        "run # x\nbytes # x\n\"é\\\"-\" # x\n| # x\n{ # x\nchunksOf # x\n4 # x\n; # x\nlines # x\n2 # x\n} # x\n| # x\nflat # x\n| # x\n( # x\nlineE # x\n{ # x\nsplit # x\n\",\" # x\n18446744073709551616 # x\n} # x\n|+ # x\n( # x\nunlines # x\n| # x\ndropE # x\n1 # x\n) # x\n) # x\n;",
-        Answer::Limit(LimitKind::Number, 150),
+        "run text \"0\" | { { utf8Encode ; utf8Encode } | { takeWhileE not alpha ; lastE ; collectE 50 ; sinkFile \"x3\" } } | sinkFile \"x4\" ;",
+        Answer::Canonical(
+            "run text \"0\" | { { utf8Encode; utf8Encode } | { takeWhileE not alpha; lastE; collectE 50; sinkFile \"x3\" } } | sinkFile \"x4\";\n",
+        ),
     ),
     (
-        "run # x\n( # x\nsourceFile # x\n\"d\" # x\n| # x\nutf8Lenient # x\n) # x\n| # x\n( # x\n{ # x\ntakeE # x\n5 # x\n; # x\ncollectE # x\n0 # x\n} # x\n|& # x\n( # x\nlines # x\n65537 # x\n| # x\nsinkNull # x\nflat # x\n) # x\n;",
-        Answer::Limit(LimitKind::Number, 153),
+        "run  replicate  0  \"b\"  |  (  take  5  |&  head  )  ;  let  s0  =  seal  mark  \"m3\"  {  stdin  }  |  split  \"1\"  80  ;  feed  s0  |  length  ;  run  sourceFile  \"c\"  |  lines  80  |  collect  50  ;",
+        Answer::Canonical(
+            "run replicate 0 \"b\" | (take 5 |& head);\nlet s0 = seal mark \"m3\" { stdin } | split \"1\" 80;\nfeed s0 | length;\nrun sourceFile \"c\" | lines 80 | collect 50;\n",
+        ),
     ),
     (
-        "run  sourceFile  \"b\"  |  {  takeWhileE  upper  ;  lineE  {  passE  }  }  |  (  split  \"\\n\"  18446744073709551616  |  (  {  map  prefix  \"a\\rb\"  ;  last  }  |&  collect  1000  )  )  ;",
-        Answer::Limit(LimitKind::Number, 92),
+        "run mark \"m1\" { replicate 9 \"\\r\" } | dropWhile shorter 65536 ;",
+        Answer::Canonical("run mark \"m1\" { replicate 9 \"\\r\" } | dropWhile shorter 65536;\n"),
     ),
     (
-        "run ( zipSource ( sourceFile \"c\" | lines 9 , sourceFile \"b\" | lines 00 9 , \"aaaa\" ) | { takeWhile empty ; sinkNull } ) | unlines | lastE ; run mark \"m2\" { sourceFile \"a\" } | takeE 3 | sinkFile \"x3\" ;",
-        Answer::Limit(LimitKind::Number, 68),
+        "run bytes \"b\" # c\n | stdout ;",
+        Answer::Canonical("run bytes \"b\" | stdout;\n"),
     ),
     (
-        "run ( { sourceFile \"a\" ; stdin } | hexEncode ) | { { chunksOf 65537 5 } } | length ;",
-        Answer::Limit(LimitKind::Number, 62),
+        "run replicate 2 \"-\" | collect 4 ; run sourceFile \"b\" | nullE ; run ( sourceFile \"d\" | repeatE 1 ) | mark \"m4\" { lines # c\n 1 } | unlines | { { collectE 50 ; sinkFile \"x6\" ; stdout } ; sinkFile \"x8\" } ; run sourceFile \"b\" | split \"\\r\" 4 | peek ;",
+        Answer::Canonical(
+            "run replicate 2 \"-\" | collect 4;\nrun sourceFile \"b\" | nullE;\nrun (sourceFile \"d\" | repeatE 1) | mark \"m4\" { lines 1 } | unlines | { { collectE 50; sinkFile \"x6\"; stdout }; sinkFile \"x8\" };\nrun sourceFile \"b\" | split \"\\r\" 4 | peek;\n",
+        ),
     ),
     (
-        "run  bytes  \"ab\"  |  mapE  add  18446744073709551616  |  (  lines  8  |  mark  \"m1\"  {  intersperse  \",\\u{7f}\"  }  )  |  map  suffix  \"\\n,\"  |  zipSink  (  (  flat  |  allE  space  )  ,  (  pass  |  dropWhile  shorter  9  )  )  ;",
-        Answer::Limit(LimitKind::Number, 32),
+        "run # x\nsourceFile # x\n\"d\" # x\n| # x\ncollectE # x\n50 # x\n;",
+        Answer::Canonical("run sourceFile \"d\" | collectE 50;\n"),
     ),
     (
-        "run mark \"m2\" { sourceFile \"c\" } | exact 1844674407370 9551616 | pass | flat | lastE ;",
-        Answer::Limit(LimitKind::Number, 41),
+        "run # x\nmark # x\n\"m1\" # x\n{ # x\nsourceFile # x\n\"b\" # x\n} # x\n| # x\nfilterE # x\nnot # x\nlower # x\n| # x\ncollectE # x\n50 # x\n;",
+        Answer::Canonical(
+            "run mark \"m1\" { sourceFile \"b\" } | filterE not lower | collectE 50;\n",
+        ),
     ),
     (
-        "run replicate 18446744073709551616 \"€\" | ( ( map suffix \",\\\\,\" |= take 5 ) | pass ) | last ; run zipSource ( range 0 1 , mark \"m6\" { sourceFile \"missing\" } | lines 9 , \"😀\" ) | pass | mark \"m7\" {; collect 50 } ;",
-        Answer::Limit(LimitKind::Number, 14),
+        "run\ntexts\n[\n]\n|\nintersperse\n\"\\r\"\n|\ndrop\n5\n;\nrun\nsourceFile\n\"b\"\n|\ntakeE\n5\n|\ntakeE\n9\n|\n{\n(\npassE\n|\nlines\n1\n)\n}\n|\nexactly\n0\n{\nlast\n}\n;\nrun\nreplicate\n30\n\"-\"\n|\n(\nflat\n|\nfilterE\nnot\nupper\n)\n|\nheadE\n;",
+        Answer::Canonical(
+            "run texts [] | intersperse \"\\r\" | drop 5;\nrun sourceFile \"b\" | takeE 5 | takeE 9 | { passE | lines 1 } | exactly 0 { last };\nrun replicate 30 \"-\" | (flat | filterE not upper) | headE;\n",
+        ),
     ),
     (
-        "run mark \"m1\" { stdin | utf8 | split \"\\r\" 65537 | flat | nullE ; run { sourceFile \"b\" ; sourceFile \"c\" } | exactlyE { 1 peekE } ;",
-        Answer::Limit(LimitKind::Number, 42),
+        "run ( zipSource ( sourceFile \"c\" | lines 9 , sourceFile \"c\" | lines 9 , \"😀0x\\n\" ) | ( map suffix \"0\" | pass ) ) | zipSink ( ( flat | peekE ) , zipSink ( sinkNull , last ) ) ;",
+        Answer::Canonical(
+            "run (zipSource(sourceFile \"c\" | lines 9, sourceFile \"c\" | lines 9, \"😀0x\\n\") | (map suffix \"0\" | pass)) | zipSink(flat | peekE, zipSink(sinkNull, last));\n",
+        ),
     ),
     (
-        "hold # x\nxxxxxxxxxxxxxxxxxxxxxxxxxxxxxxxxxxxxxxxxxxxxxxxxxxxxxxxxxxxxxxxxx # x\n= # x\nmark # x\n\"m1\" # x\n; # x\nrelease # x\nk0 # x\n; # x\nrun # x\nstdin # x\n| # x\n; # x\n# c\n",
-        Answer::Limit(LimitKind::Literal, 9),
+        "run sourceFile \"c\" | bytes \"a\" | filterE lower | ( split \"a\" 4 | exactly 2 { length } ) ;",
+        Answer::Canonical(
+            "run sourceFile \"c\" | bytes \"a\" | filterE lower | (split \"a\" 4 | exactly 2 { length });\n",
+        ),
     ),
     (
-        "hold # x\nxxxxxxxxxxxxxxxxxxxxxxxxxxxxxxxxxxxxxxxxxxxxxxxxxxxxxxxxxxxxxxxxx # x\nk0 # x\n= # x\nmark # x\n\"m1\" # x\n; # x\nrun # x\nsourceFile # x\n\"c\" # x\n| # x\ntakeE # x\n18446744073709551615 # x\n| # x\nstdout # x\n;",
-        Answer::Limit(LimitKind::Literal, 9),
+        "run  sourceFile  \"b\"  |  base64Encode  |  utf8  # c\n  |  utf8Encode  |  stdout  ;",
+        Answer::Canonical("run sourceFile \"b\" | base64Encode | utf8 | utf8Encode | stdout;\n"),
     ),
     (
-        "hold  xxxxxxxxxxxxxxxxxxxxxxxxxxxxxxxxxxxxxxxxxxxxxxxxxxxxxxxxxxxxxxxxx  k0  feed",
-        Answer::Limit(LimitKind::Literal, 6),
+        "run  mark  \"m2\"  {  sourceFile  \"c\"  }  ;",
+        Answer::Canonical("run mark \"m2\" { sourceFile \"c\" };\n"),
     ),
     (
-        "run mark \"m1\" { zipSource ( stdin | lines 9 , sourceFile \"a\" | lines 0 9 , \",\" ) } | pass | takeWhile empty | collect 50 ;",
-        Answer::Limit(LimitKind::Number, 69),
+        "run\nsourceFile\n\"a\"\n|\ncollectE\n50\n;",
+        Answer::Canonical("run sourceFile \"a\" | collectE 50;\n"),
     ),
     (
-        "run replicate 1099511627776 \"é\" | zipSink ( collect 18446744073709551616 1 ] , drop 2 )",
-        Answer::Limit(LimitKind::Number, 53),
+        "run\nsourceFile\n\"b\"\n|\nexactlyE\n1\n{\nheadE\n}\n;",
+        Answer::Canonical("run sourceFile \"b\" | exactlyE 1 { headE };\n"),
     ),
     (
-        "run sourceFile \"b\" | split \"-\" 4 | map prefix \"\\\"\" | ( map suffix \"\\\\\" |= mark \"m1\" { unlines } ) | ( lines 3 |+ zipSink ( collect 0 , collect 18446744073709551616 ) ) ;",
-        Answer::Limit(LimitKind::Number, 143),
+        "run  sourceFile  \"b\"  |  dropWhileE  is  \"1\"  ;",
+        Answer::Canonical("run sourceFile \"b\" | dropWhileE is \"1\";\n"),
     ),
     (
-        "run  sourceFile  \"d\"  |  takeWhileE  is  \"\\r\"  |  {  exactlyE  18446744073709551616  {  utf8  }  }",
-        Answer::Limit(LimitKind::Number, 63),
+        "run  stdin  |  (  passE  |  base64Decode  )  |  collectE  1  ;",
+        Answer::Canonical("run stdin | (passE | base64Decode) | collectE 1;\n"),
     ),
     (
-        "run sourceFile \"d\" | ( mapE xor 18446744073709551616 |= lines 1 ) | exactly 2 { dropWhile begins \"\\n\" } ; run stdin | repeatE 0 | utf8Lenient | nullE ; run ( mark \"m1\" { sourceFile \"a\" } | takeWhileE not digit ) | split \",\" 1 | dropWhile not begins \"0\" ;",
-        Answer::Limit(LimitKind::Number, 32),
+        "run # x\nblocks # x\n[ # x\n\"aa\" # x\n, # x\n\"b\" # x\n] # x\n| # x\n{ # x\n( # x\nmap # x\nreverse # x\n| # x\nnull # x\n) # x\n; # x\n( # x\nrepeat # x\n0 # x\n| # x\ndrop # x\n9 # x\n) # x\n} # x\n;",
+        Answer::Canonical(
+            "run blocks [\"aa\", \"b\"] | { map reverse | null; repeat 0 | drop 9 };\n",
+        ),
     ),
     (
-        "run\nsourceFile\n\"c\"\n|\nmark\n\"m1\"\n{\nbase64Encode\n}\n|\ntakeWhileE\nnewline\n|\n(\n(\nexact\n1\n|\nrepeat\n18446744073709551616\n1\n)\n|\npass\n)\n|\nlength\n;",
-        Answer::Limit(LimitKind::Number, 92),
+        "run stdin | base64Decode | ( { lines 3 } | collect 50 ) ;",
+        Answer::Canonical("run stdin | base64Decode | ({ lines 3 } | collect 50);\n"),
     ),
     (
-        "run  sourceFile  \"missing\"  |  hexEncode  |  utf8Lenient  |  utf8Encode  |  zipSink  (  (  mapE  add  128  |  anyE  below  18446744073709551616  )  ,  (  takeE  0  |  stdout  )  )  ;",
-        Answer::Limit(LimitKind::Number, 123),
-    ),
-    (
-        "run  {  mark  \"m1\"  {  stdin  }  ;  sourceFile  \"d\"  }  |  hexDecode  |  (  chunksOf  00  4  |?  {  peek  }  )  ;",
-        Answer::Limit(LimitKind::Number, 86),
-    ),
-    (
-        "run # x\nblocks # x\n[ # x\n\"\\\\€\" # x\n, # x\n\"x\\n\" # x\n, # x\n\"😀\" # x\n, # x\n\"ab\" # x\n] # x\n| # x\n( # x\n( # x\nflat # x\n| # x\nsplit # x\n\"\\n\" # x\n65537 # x\n4 # x\n) # x\n| # x\nexactl| # x\n4 # x\n{ # x\npeek # x\n} # x\n) # x\n;",
-        Answer::Limit(LimitKind::Number, 143),
-    ),
-    (
-        "run  mark  \"m1\"  {  {  sourceFile  \"a\"  ;  sourceFile  \"b\"  }  }  |  split  \"a\"  00  2  |  head  ;",
-        Answer::Limit(LimitKind::Number, 81),
-    ),
-    (
-        "hold k0 = mark \"m1\" ; run mark \"m2\" { stdin } | ( ( utf8Lenient | repeatE 2 ) | split \"1\" 80 ) | zipConduit ( filter not empty , ( map reverse |= map reverse ) ) | ( flat | lineE { split \"é\" 0 } ) | ( flat |& ( { takeE 9 ; nullE } |& lengthE ) ) ;",
-        Answer::Limit(LimitKind::Number, 192),
+        "run ( sourceFile \"c\" | takeWhileE hexdigit ) | takeWhileE not space | { { sinkNull ; sumE ; lastE } ; lines 4 ; lines 80 } | unlines | zipSink ( ( passE | sumE ) , zipSink ( nullE , lengthE ) ) ;",
+        Answer::Canonical(
+            "run (sourceFile \"c\" | takeWhileE hexdigit) | takeWhileE not space | { { sinkNull; sumE; lastE }; lines 4; lines 80 } | unlines | zipSink(passE | sumE, zipSink(nullE, lengthE));\n",
+        ),
     ),
 ];
 

@@ -1,21 +1,14 @@
 use Rattle.std.proofs.Common.{sym, subst}
-use Rattle.cd_cli.specs.declared.cause.Cause.{Cause}
-use Rattle.cd_cli.specs.Command.{ReadsAndJudges, Called, SendsScript, Sent}
-use Rattle.cd_cli.proofs.CommandSteps.{script_sends, script_logs, unread_sends, unread_logs}
+use Rattle.cd_cli.specs.declared.words.Command.{Command}
+use Rattle.cd_cli.specs.Command.{SendsFor, Sent}
 use Rattle.cd_cli.proofs.command.run_script.Goals as goal
 
-pub returns-in-Ok-clause-files : goal.returns-in-Ok-clause-files
-returns-in-Ok-clause-files g c = λ tells. script_sends c.args.script.now _ c.in-Ok.text _ c.run_text.result c.deref.ensures.value _ _ _ (c.in-Ok.ensures.files tells) (c.run_text.ensures.files tells)
+pub returns-in-Run-clause-files : goal.returns-in-Run-clause-files
+returns-in-Run-clause-files g c = λ tells.
+    let files = g.W.World.files c.args.world.now in
+    subst (λ (command : Command). Sent (SendsFor command files.contents c.args.script.now c.run_tree.result) files (g.W.World.files c.run_tree.new.world)) (sym c.in-Run.is) (c.run_tree.ensures.files tells)
 
-pub returns-in-Ok-clause-log : goal.returns-in-Ok-clause-log
-returns-in-Ok-clause-log g c = λ tells. script_logs c.args.script.now _ c.in-Ok.text _ c.run_text.result c.deref.ensures.value _ _ _ (c.in-Ok.ensures.log tells) (c.run_text.ensures.log tells)
-
-pub returns-in-Err-clause-files : goal.returns-in-Err-clause-files
-returns-in-Err-clause-files g c = λ tells.
-    subst (λ (cause : Cause). Sent (SendsScript (g.W.World.files c.args.world.now).contents c.args.script.now cause) (g.W.World.files c.args.world.now) (g.W.World.files c.read_script.new.world)) (sym c.script_cause.ensures)
-    (unread_sends c.args.script.now _ c.in-Err.error _ _ (c.in-Err.ensures.files tells))
-
-pub returns-in-Err-clause-log : goal.returns-in-Err-clause-log
-returns-in-Err-clause-log g c = λ tells.
-    subst (λ (cause : Cause). Called (ReadsAndJudges c.args.script.now cause) (g.W.World.log c.args.world.now) (g.W.World.log c.read_script.new.world)) (sym c.script_cause.ensures)
-    (unread_logs c.args.script.now _ c.in-Err.error _ _ (c.in-Err.ensures.log tells))
+pub returns-in-Show-clause-files : goal.returns-in-Show-clause-files
+returns-in-Show-clause-files g c = λ tells.
+    let files = g.W.World.files c.args.world.now in
+    subst (λ (command : Command). Sent (SendsFor command files.contents c.args.script.now c.show_tree.result) files (g.W.World.files c.show_tree.new.world)) (sym c.in-Show.is) (c.show_tree.ensures.files tells)

@@ -1,9 +1,10 @@
 use Rattle.std.proofs.Common.{inl, refl, sym, subst}
-use Rattle.cd_cli.proofs.CommandSteps.{unfit_logs, unfit_sends, fit_logs, fit_sends, run_cause, not_success}
+use Rattle.cd_cli.proofs.CommandSteps.{unfit_logs, unfit_sends, fit_logs, fit_sends, run_cause, not_success, no_other}
+use Rattle.cd_cli.proofs.WriteSteps.{ok_unfailed}
 use Rattle.cd_cli.specs.declared.cause.Cause.{Cause}
 use Rattle.cd_cli.specs.declared.cause.Cause.TheVariants.{Success}
 use Rattle.cd_cli.specs.Cause.{cause_of}
-use Rattle.cd_cli.specs.Command.{LogsTree, SendsTree, Sent}
+use Rattle.cd_cli.specs.Command.{Logs, RunsTree, SendsTree, Sent}
 use Rattle.cd_cli.proofs.command.run_tree.Goals as goal
 
 pub returns-in_default-clause-files : goal.returns-in_default-clause-files
@@ -16,7 +17,7 @@ pub returns-in-Ok-clause-files : goal.returns-in-Ok-clause-files
 returns-in-Ok-clause-files g c = λ tells. fit_sends c.args.script.now c.in-Some.field-0.name.now c.in-Some.field-0.count c.in-Some.ensures.form _ Success (inl refl) (λ P p success. p) _ _ (c.in-Ok.ensures.files tells)
 
 pub returns-in-Ok-clause-log : goal.returns-in-Ok-clause-log
-returns-in-Ok-clause-log g c = λ tells. fit_logs c.args.script.now c.in-Some.field-0.name.now c.in-Some.field-0.count c.in-Some.ensures.form _ Success (inl refl) (λ P p success. p) _ _ (c.in-Ok.ensures.log tells)
+returns-in-Ok-clause-log g c = λ tells. fit_logs c.args.script.now c.in-Some.field-0.name.now c.in-Some.field-0.count c.in-Some.ensures.form _ Success (inl refl) (λ P p success. p) _ _ (λ other. ok_unfailed _) (c.in-Ok.ensures.log tells)
 
 pub returns-in-Err-clause-files : goal.returns-in-Err-clause-files
 returns-in-Err-clause-files g c = λ tells.
@@ -25,5 +26,5 @@ returns-in-Err-clause-files g c = λ tells.
 
 pub returns-in-Err-clause-log : goal.returns-in-Err-clause-log
 returns-in-Err-clause-log g c = λ tells.
-    subst (λ (cause : Cause). LogsTree c.args.script.now cause (g.W.World.log c.args.world.now) (g.W.World.log c.run_take.new.world)) (sym c.from.ensures)
-    (fit_logs c.args.script.now c.in-Some.field-0.name.now c.in-Some.field-0.count c.in-Some.ensures.form _ (cause_of c.in-Err.error) (run_cause c.in-Err.error) (λ P p success. absurd (not_success c.in-Err.error success)) _ _ (c.in-Err.ensures.log tells))
+    subst (λ (cause : Cause). Logs (RunsTree c.args.script.now) cause (g.W.World.log c.args.world.now) (g.W.World.log c.run_take.new.world)) (sym c.from.ensures)
+    (fit_logs c.args.script.now c.in-Some.field-0.name.now c.in-Some.field-0.count c.in-Some.ensures.form _ (cause_of c.in-Err.error) (run_cause c.in-Err.error) (λ P p success. absurd (not_success c.in-Err.error success)) _ _ (no_other _ c.in-Err.error) (c.in-Err.ensures.log tells))

@@ -6,8 +6,9 @@ use Rattle.cd_world.specs.Live.{Open, open_as}
 use Rattle.cd_world.specs.Files.{left_at}
 use Rattle.cd_meaning.specs.Words.{AtEnd, MayGoOn}
 use Rattle.cd_cli.specs.Take.{Passing}
-use Rattle.cd_cli.proofs.PassSteps.{pass_none, pass_refused, pass_end, pass_turn, logs_pass, log_pass_none, log_pass_refused, log_pass_end, log_pass_stopped, log_pass_turn, enough_passed}
+use Rattle.cd_cli.proofs.PassSteps.{pass_none, pass_refused, pass_end, pass_turn, logs_pass, log_pass_none, log_pass_refused, log_pass_end, log_pass_stopped, log_pass_turn, refused_unbroken, enough_passed}
 use Rattle.cd_cli.proofs.SeenSteps.{goes_on_unbroken, end_unbroken}
+use Rattle.cd_cli.proofs.WriteSteps.{handed_on, ok_unfailed}
 use Rattle.cd_cli.proofs.take.pass_front.Goals as goal
 
 pub loop-left-init : goal.loop-left-init
@@ -29,7 +30,8 @@ returns-in_err-given-clause-files g c = λ tells name has.
 pub returns-in_err-given-clause-log : goal.returns-in_err-given-clause-log
 returns-in_err-given-clause-log g c = λ tells.
     let refused = log_pass_refused c.args.from c.args.count c.loop-left.left c.read.new.into _ _ _ (c.loop-left.invariant.log tells) c.in_err-given.field-0.0 (c.in_err-given.ensures.log tells) in
-    logs_pass c.args.from.0 c.args.count c.loop-left.left refused.0 _ _ _ refused.1 (IfOk-from_err _ _ c.from_residual.ensures.0) (IfOk-from_err _ _ c.from_residual.ensures.0) (IfOk-from_err _ _ c.from_residual.ensures.0)
+    logs_pass c.args.from.0 c.args.count c.loop-left.left _ _ _ _ refused (IfOk-from_err _ _ c.from_residual.ensures.0) (IfOk-from_err _ _ c.from_residual.ensures.0)
+    (refused_unbroken _ c.in_err-given.field-0.0 c.from_residual.ensures.1)
 
 pub returns-in_err-write_all-clause-files : goal.returns-in_err-write_all-clause-files
 returns-in_err-write_all-clause-files g c = λ tells name has.
@@ -45,6 +47,7 @@ pub returns-in_err-write_all-clause-log : goal.returns-in_err-write_all-clause-l
 returns-in_err-write_all-clause-log g c = λ tells.
     log_pass_stopped c.args.from c.args.count c.loop-left.left c.read.new.into _ _ _ (c.loop-left.invariant.log tells) c.in_ok-given.given c.min-front.result _ _ _ c.if-given-eq0.false
     c.in_ok-given.ensures.within (omega arith) refl (c.in_ok-given.ensures.log tells) (c.in_err-write_all.ensures.log tells) _ (λ P. IfOk-from_err _ _ c.from_residual-in_err-write_all.ensures.0)
+    (handed_on _ _ _ c.from_residual-in_err-write_all.ensures.1)
 
 pub loop-left-preserved : goal.loop-left-preserved
 loop-left-preserved g c = record {
@@ -60,7 +63,7 @@ loop-left-preserved g c = record {
   log = λ tells.
       let out = c.in_ok-write_all.ensures.log tells in
       log_pass_turn c.args.from c.args.count c.loop-left.left c.read.new.into _ _ _ (c.loop-left.invariant.log tells) c.in_ok-given.given c.min-front.result _ _ _ c.if-given-eq0.false
-      c.in_ok-given.ensures.within (omega arith) refl (c.in_ok-given.ensures.log tells) out out.whole out.calm;
+      c.in_ok-given.ensures.within (omega arith) refl (c.in_ok-given.ensures.log tells) out out.whole (out.calm (ok_unfailed _));
 }
 
 pub returns-after-loop-left-clause-files : goal.returns-after-loop-left-clause-files
@@ -73,7 +76,7 @@ returns-after-loop-left-clause-files g c = λ tells name has. record {
 pub returns-after-loop-left-clause-log : goal.returns-after-loop-left-clause-log
 returns-after-loop-left-clause-log g c = λ tells.
     let so_far = c.loop-left.invariant.log tells in
-    logs_pass c.args.from.0 c.args.count c.loop-left.left MayGoOn _ _ _ so_far refl (enough_passed c.args.from.0 c.args.count c.loop-left.left MayGoOn _ _ so_far (omega arith)) goes_on_unbroken
+    logs_pass c.args.from.0 c.args.count c.loop-left.left MayGoOn _ _ _ so_far refl (enough_passed c.args.from.0 c.args.count c.loop-left.left MayGoOn _ _ so_far (omega arith)) (λ unfailed. goes_on_unbroken)
 
 pub returns-then-given-eq0-clause-files : goal.returns-then-given-eq0-clause-files
 returns-then-given-eq0-clause-files g c = λ tells name has.
@@ -86,4 +89,4 @@ returns-then-given-eq0-clause-files g c = λ tells name has.
 pub returns-then-given-eq0-clause-log : goal.returns-then-given-eq0-clause-log
 returns-then-given-eq0-clause-log g c = λ tells.
     let so_far = log_pass_end c.args.from c.args.count c.loop-left.left c.read.new.into _ _ _ (c.loop-left.invariant.log tells) c.in_ok-given.given c.if-given-eq0.true (c.in_ok-given.ensures.log tells) in
-    logs_pass c.args.from.0 c.args.count c.loop-left.left AtEnd _ _ _ so_far refl (inr so_far.mark_is) end_unbroken
+    logs_pass c.args.from.0 c.args.count c.loop-left.left AtEnd _ _ _ so_far refl (inr so_far.mark_is) (λ unfailed. end_unbroken)

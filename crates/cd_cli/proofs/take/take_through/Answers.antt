@@ -13,7 +13,7 @@ returns-in_err-from-clause-files g c = λ tells.
 
 pub returns-in_err-from-clause-log : goal.returns-in_err-from-clause-log
 returns-in_err-from-clause-log g c = λ tells.
-    logs_refused c.args.name.now c.args.count _ _ _ c.in_err-from.field-0.0 (λ P. IfOk-from_err _ _ c.from_residual.ensures.0) (c.in_err-from.ensures.log tells)
+    logs_refused c.args.name.now c.args.count _ _ _ c.in_err-from.field-0.0 c.from_residual.ensures.1 (c.in_err-from.ensures.log tells)
 
 pub pass_front-answer-requires-clause-readable : goal.pass_front-answer-requires-clause-readable
 pass_front-answer-requires-clause-readable g c = (c.args.name.now, subst (λ (live : List Open). Contains live (open_as Reading c.in_ok-from.from c.args.name.now)) (sym c.in_ok-from.ensures.live.0) (Contains-push _ _))

@@ -1,8 +1,8 @@
-use Rattle.std.proofs.Common.{true, false, [], List, ℕ, length, length-take, length-drop, take, drop, arith, refl, ◌∙◌, subst, ap, ◌-◌}
+use Rattle.std.proofs.Common.{true, [], List, ℕ, length, length-take, length-drop, take, drop, arith, refl, ◌∙◌, subst, ap, ◌-◌}
 use Rattle.std.proofs.lemmas.List.{drop_all}
 use Rattle.std.proofs.lemmas.Result.{IfOk-from_err}
 use Rattle.cd_world.specs.Files.{with_output}
-use Rattle.cd_cli.proofs.WriteSteps.{LogsOutput, front_more, files_none, files_more, writes_whole, writes_refused, log_none, log_wrote, log_refused, logs_front}
+use Rattle.cd_cli.proofs.WriteSteps.{LogsOutput, front_more, files_none, files_more, writes_whole, writes_refused, log_none, log_wrote, log_refused, is_quiet, quiet_unless_failed, logs_front}
 use Rattle.cd_cli.proofs.take.write_all.Goals as goal
 
 pub loop-done-init : goal.loop-done-init
@@ -31,10 +31,12 @@ returns-in_err-count-clause-files g c = λ tells.
 
 pub returns-in_err-count-clause-log : goal.returns-in_err-count-clause-log
 returns-in_err-count-clause-log g c = λ tells.
-    logs_front false c.args.bytes.now c.loop-done.done _ _ (log_refused _ (take (length c.args.bytes.now - c.loop-done.done) (drop c.loop-done.done c.args.bytes.now)) _ _ _ (c.loop-done.invariant.log tells) c.in_err-count.field-0.0 (c.in_err-count.ensures.log tells)) _ (IfOk-from_err _ _ c.from_residual.ensures.0) (IfOk-from_err _ _ c.from_residual.ensures.0)
+    let error = c.in_err-count.field-0.0 in
+    logs_front (is_quiet error) c.args.bytes.now c.loop-done.done _ _ (log_refused _ (take (length c.args.bytes.now - c.loop-done.done) (drop c.loop-done.done c.args.bytes.now)) _ _ _ (c.loop-done.invariant.log tells) error (c.in_err-count.ensures.log tells)) _
+    (IfOk-from_err _ _ c.from_residual.ensures.0) (quiet_unless_failed _ error c.from_residual.ensures.1)
 
 pub returns-clause-files : goal.returns-clause-files
 returns-clause-files g c = λ tells. writes_whole c.args.bytes.now c.loop-done.done _ _ (c.loop-done.invariant.files tells) tt (omega arith)
 
 pub returns-clause-log : goal.returns-clause-log
-returns-clause-log g c = λ tells. logs_front true c.args.bytes.now c.loop-done.done _ _ (c.loop-done.invariant.log tells) _ (drop_all c.loop-done.done c.args.bytes.now (omega arith)) refl
+returns-clause-log g c = λ tells. logs_front true c.args.bytes.now c.loop-done.done _ _ (c.loop-done.invariant.log tells) _ (drop_all c.loop-done.done c.args.bytes.now (omega arith)) (λ unfailed. refl)

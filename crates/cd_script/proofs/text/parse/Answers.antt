@@ -6,6 +6,7 @@ use Rattle.cd_meaning.specs.Limits.{IsWithinLimits}
 use Rattle.cd_meaning.specs.Refusals.{tokens}
 use Rattle.cd_script.specs.Answers.{Answers, Gives}
 use Rattle.cd_script.proofs.Alone.{gives, parses}
+use Rattle.cd_script.proofs.TextWithin.{parsed_is_within}
 use Rattle.cd_script.proofs.text.parse.Goals as goal
 
 pub returns-in-Ok-clause-exact : goal.returns-in-Ok-clause-exact
@@ -19,3 +20,6 @@ returns-in-Ok-clause-only c =
     let Q : List Lexeme → Type 0 = λ ls. (tree : List Stmt) → c.in-Ok.lexed.whole ≡ true → IsScript (tokens ls) tree → IsWithinLimits (tokens ls) → Gives tree c.parse_tokens.result in
     gives c.args.text.now c.in-Ok.lexed.lexemes c.in-Ok.lexed.stop c.in-Ok.lexed.whole c.parse_tokens.result c.in-Ok.ensures
     (subst Q c.as_slice.ensures c.parse_tokens.ensures.only)
+
+pub returns-in-Ok-clause-within : goal.returns-in-Ok-clause-within
+returns-in-Ok-clause-within c = parsed_is_within c.args.text.now c.parse_tokens.result (returns-in-Ok-clause-exact c)

@@ -1,0 +1,42 @@
+-- A token is refused exactly where no script goes on with it.
+use Rattle.std.proofs.Common.{◌≡◌, List, [], ◌∷◌, ◌++◌, Some, None, refl, ap, sym, ◌∙◌}
+use Rattle.std.specs.List.{fold}
+use Rattle.std.proofs.lemmas.List.Sums.{fold-append}
+use Rattle.cd_elem.specs.declared.script.Stmt.{Stmt}
+use Rattle.cd_elem.specs.declared.token.Token.{Token}
+use Rattle.cd_meaning.specs.Grammar as g
+use Rattle.cd_parser.specs.declared.state.State.{State}
+use Rattle.cd_parser.specs.Machine.{next, run, start}
+use Rattle.cd_parser.proofs.Complete.{over_script, done}
+use Rattle.cd_parser.proofs.Finish.{finishes}
+use Rattle.cd_parser.proofs.Stands.{is_script}
+
+-- what the machine takes is the front of a script
+pub front : (ts : List Token) (s : State) → run ts ≡ Some s → g.IsFront ts
+front ts s e =
+    let f = finishes s in
+    record {
+      more = f.more;
+      tree = f.tree;
+      script = is_script (ts ++ f.more) f.tree (fold-append next (Some start) ts f.more ∙ ap (λ o. fold next o f.more) e ∙ f.ends);
+    }
+
+-- a script leads to its own tree
+pub only : (ts : List Token) (tree : List Stmt) → g.IsScript ts tree → run ts ≡ Some (done tree)
+only ts tree i = ap run (sym i.spelled) ∙ over_script i.derivation ∙ ap (λ r. Some (done r)) i.stands_for
+
+stuck : (ts : List Token) → fold next None ts ≡ None
+stuck [] = refl
+stuck (t ∷ ts) = stuck ts
+
+pub apart : {A : Type 0} {x : A} → None ≡ Some x → ⊥
+apart e = cc
+
+-- what the machine refuses is the front of no script
+pub no_front : (ts : List Token) → run ts ≡ None → g.IsFront ts → ⊥
+no_front ts e f =
+    let a = only (ts ++ f.more) f.tree f.script in
+    let b = fold-append next (Some start) ts f.more in
+    let c = ap (λ o. fold next o f.more) e in
+    let d = stuck f.more in
+    apart (sym d ∙ sym c ∙ sym b ∙ a)

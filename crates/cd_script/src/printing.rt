@@ -1,0 +1,36 @@
+// From a tree to its canonical text.
+ghost use Rattle.std.specs.Prelude.{◌≡◌, ◌++◌, true, IfOk, OnOk, string_bytes};
+ghost use Rattle.cd_meaning.specs.Canonical.{IsTreeWithin};
+ghost use Rattle.cd_meaning.specs.CanonicalText.{canonical_text, line};
+ghost use Rattle.cd_meaning.specs.Refusals.{IsText};
+ghost use Rattle.cd_script.specs.Ranges as ranges;
+
+use crate::canonical::statement_tokens;
+use cd_elem::{NoMemory, Script, Stmt};
+use cd_lex::push_spaced;
+use std::alloc::Global;
+
+/// Adds the line of a statement. After an error some of it may stand there.
+fn push_line(alloc: Global, text: &mut String, statement: &Stmt) -> Result<(), NoMemory>
+    ensures line { OnOk result (string_bytes text.new ≡ string_bytes text.old ++ line statement.now) }
+    ensures range { OnOk result (ranges.statement statement.now ≡ true) }
+{
+    let tokens = statement_tokens(alloc, statement)?;
+    push_spaced(text, tokens.as_slice())?;
+    text.push_str("\n")?;
+    Ok(())
+}
+
+/// The canonical text of a tree that is within the limits. It is a script with the same tree, so `parse` reads it back
+/// where it has at most 65,536 bytes.
+pub fn print(alloc: Global, script: &Script) -> Result<String, NoMemory>
+    requires { IsTreeWithin script.now }
+    ensures canonical { IfOk result (λ text. string_bytes text ≡ canonical_text script.now) }
+    ensures script { IfOk result (λ text. IsText (string_bytes text) script.now) }
+{
+    let mut text = String::new(alloc);
+    for statement in script.statements().as_slice() {
+        push_line(alloc, &mut text, statement)?;
+    }
+    Ok(text)
+}
