@@ -2,13 +2,16 @@
 PREFIX ?= /usr/local
 PROGRAM = crates/conduit/out/conduit
 
-.PHONY: help build example install test bench clean
+.PHONY: help build example install test cases edits gate-times bench clean
 
 help:
 	@echo 'make example            builds the program and runs the first example'
 	@echo 'make build              builds the program, $(PROGRAM)'
 	@echo 'make install PREFIX=..  builds the program and puts it into PREFIX/bin'
 	@echo 'make test               proves and tests everything'
+	@echo 'make cases              writes the data of crates/cases again'
+	@echo 'make edits CRATES=..    tries the wrong changes of the code, and right twins, of these crates or of all'
+	@echo 'make gate-times         runs the gate from nothing and prints what it costs'
 	@echo 'make bench              measures how many bytes a second the words read'
 	@echo 'make clean              removes what was built'
 
@@ -23,7 +26,18 @@ install: build
 	install -D $(PROGRAM) '$(DESTDIR)$(PREFIX)/bin/conduit'
 
 test:
-	rt ci
+	tools/test.sh
+
+cases:
+	tools/cases_data.py
+	tools/cases.py crates/cd_meaning/specs/Cases
+
+gate-times:
+	tools/gate_times.py
+
+# The wrong changes that the gate tries and all others, which the checks must refuse, and right ones, which they must not.
+edits:
+	tools/edits.sh $(CRATES)
 
 # Without words the program that measures does nothing, so `rt run` here only proves and links it.
 bench:

@@ -1,18 +1,22 @@
 #!/usr/bin/env python3
 """Write the cases of tools/cases as antt modules of evaluated lemmas.
 
-usage: tools/cases.py [--all] [--words LINES] [--scripts LINES] [--per MODULE_LINES] OUT
+usage: tools/cases.py [--check] [--all] [--words LINES] [--scripts LINES] [--per MODULE_LINES] OUT
 
 Without a choice a selection is written: each word, form, operator, statement,
 class, mark and fault that the cases have stands in at least three of them, where
 there are so many. --all writes each case. LINES are numbers of lines, as 3,8-12,
 or `none`. OUT is a folder: Words1.antt, Scripts1.antt and so on are written there,
-and files of such names that were there are removed. OUT.antt names them.
+and files of such names that were there are removed. OUT.antt names them. With
+--check nothing is written: the files that are not as they would be are named, and
+the status is 1 where there are some.
 """
 
 import argparse
 import json
 import re
+import sys
+import tempfile
 import textwrap
 from collections import Counter
 from pathlib import Path
@@ -364,24 +368,48 @@ def read_cases(name):
         return {number: json.loads(line) for number, line in enumerate(lines, 1)}
 
 
+def write_all(out, options):
+    """Writes the modules and their index, and tells what was chosen."""
+    out.mkdir(parents=True, exist_ok=True)
+    names, told = [], []
+    for kind, asked, write in (("Words", options.words, word_lines), ("Scripts", options.scripts, script_lines)):
+        groups = {line: write(line, case) for line, case in read_cases(f"{kind.lower()}.jsonl").items()}
+        chosen = asked if asked is not None else list(groups) if options.all else selection(groups)
+        names += write_modules(out, kind, [groups[line] for line in chosen], options.per)
+        lemmas = sum("_so _" in text for line in chosen for text in groups[line])
+        told.append(f"{kind.lower()}: {len(chosen)} of {len(groups)} cases, {lemmas} lemmas")
+    index = ["-- Modules of cases, written by tools/cases.py.", *[f"pub mod {name}" for name in sorted(["Known", *names])]]
+    Path(f"{out}.antt").write_text("\n".join(index) + "\n", encoding="utf-8")
+    return told
+
+
+def stale(out, options):
+    """The files that are not what would be written."""
+    with tempfile.TemporaryDirectory() as folder:
+        wanted = Path(folder) / out.name
+        write_all(wanted, options)
+        files = {path.relative_to(folder): path.read_bytes() for path in Path(folder).rglob("*.antt")}
+    here = {path.relative_to(out.parent) for path in out.glob("*.antt")} - {Path(out.name) / "Known.antt"}
+    other = here - set(files)
+    return sorted([path for path, text in files.items() if not (out.parent / path).exists() or (out.parent / path).read_bytes() != text] + list(other))
+
+
 def main():
     parser = argparse.ArgumentParser(usage=__doc__.split("usage: ")[1].split("\n")[0], description=__doc__.split("\n")[0])
+    parser.add_argument("--check", action="store_true")
     parser.add_argument("--all", action="store_true")
     parser.add_argument("--words", type=lines_in)
     parser.add_argument("--scripts", type=lines_in)
     parser.add_argument("--per", type=int, default=490)
     parser.add_argument("out", type=Path)
     options = parser.parse_args()
-    options.out.mkdir(parents=True, exist_ok=True)
-    names = []
-    for kind, asked, write in (("Words", options.words, word_lines), ("Scripts", options.scripts, script_lines)):
-        groups = {line: write(line, case) for line, case in read_cases(f"{kind.lower()}.jsonl").items()}
-        chosen = asked if asked is not None else list(groups) if options.all else selection(groups)
-        names += write_modules(options.out, kind, [groups[line] for line in chosen], options.per)
-        lemmas = sum("_so _" in text for line in chosen for text in groups[line])
-        print(f"{kind.lower()}: {len(chosen)} of {len(groups)} cases, {lemmas} lemmas")
-    index = ["-- Modules of cases, written by tools/cases.py.", *[f"pub mod {name}" for name in sorted(["Known", *names])]]
-    Path(f"{options.out}.antt").write_text("\n".join(index) + "\n", encoding="utf-8")
+    if options.check:
+        found = stale(options.out, options)
+        for path in found:
+            print(f"{options.out.parent / path} is not what tools/cases.py writes")
+        sys.exit(1 if found else 0)
+    for line in write_all(options.out, options):
+        print(line)
 
 
 if __name__ == "__main__":

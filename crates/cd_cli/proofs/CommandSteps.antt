@@ -28,6 +28,7 @@ use Rattle.cd_cli.specs.Command.{IsRunCause, IsUnread, Runs, RunsTree, no_form, 
 use Rattle.cd_cli.specs.Script.{ReadsWhole, TriesRead, ReadsFront, LogsRead}
 use Rattle.cd_cli.specs.Seen.{seen_of}
 use Rattle.cd_cli.specs.Take.{Takes, LogsTake}
+use Rattle.cd_cli.proofs.RestSteps.{keeps_on, contents_kept}
 use Rattle.cd_cli.proofs.WriteSteps.{IsUnfailed, no_memory_unfailed}
 
 -- ---- the meaning of a run
@@ -54,8 +55,7 @@ module _ (name : List ℕ) (count : ℕ) where
     puts = form_puts name (seen_of takes.part) count ∙ takes.front;
     whole = on_success _ takes.whole;
     done = λ success. form_ending name (seen_of takes.part) count ∙ front_done _ _ count (on_success _ takes.enough success);
-    calm = on_success _ takes.calm;
-    blamed = λ other. takes.blamed (unfailed other);
+    calm = λ other. takes.calm (unfailed other);
   }
 
   -- what was put
@@ -74,7 +74,7 @@ module _ (tree : List Stmt) where
   unfit_logs l none = record { calls = []; log = sym (append-nil l); does = no_form none refl }
 
   pub unfit_sends : (f : Files) → NoForm tree → Sent (SendsTree f.contents tree NotBuilt) f f
-  unfit_sends f none = record { sent = []; output = sym (append-nil f.output); contents = refl; answer = no_form none refl }
+  unfit_sends f none = record { sent = []; output = sym (append-nil f.output); rest = refl; answer = no_form none refl }
 
   module _ {T : Type 0} (name : List ℕ) (count : ℕ) (is : tree ≡ take_script name count) (result : Result T WorldError) (cause : Cause) (ran : IsRunCause cause)
       (on_success : (P : Type 0) → OnOk result P → cause ≡ Success → P) where
@@ -85,7 +85,7 @@ module _ (tree : List Stmt) where
     fit_sends f f' takes = record {
       sent = takes.sent;
       output = takes.output;
-      contents = takes.contents;
+      rest = takes.rest;
       answer = of_form name count takes.sent is ran (puts_of_file name count result cause f f' takes on_success);
     }
 
@@ -119,14 +119,14 @@ module _ (text : List ℕ) where
 
   module _ (SendsSo : List Stmt → Cause → List ℕ → Type 0) where
     pub tree_sends : (tree : List Stmt) (cause : Cause) (f f' : Files) → HasTree text tree → Sent (SendsSo tree cause) f f' → Sent (Sends SendsSo text cause) f f'
-    tree_sends tree cause f f' has sends = record { sent = sends.sent; output = sends.output; contents = sends.contents; answer = of_tree tree sends.sent has sends.answer }
+    tree_sends tree cause f f' has sends = record { sent = sends.sent; output = sends.output; rest = sends.rest; answer = of_tree tree sends.sent has sends.answer }
 
     sends_none : (cause : Cause) → (cause ≡ WithoutMemory) ⊎ HasNone text cause → Sends SendsSo text cause []
     sends_none cause (inl is) = no_memory is
     sends_none cause (inr none) = no_script none
 
     pub none_sends : (cause : Cause) (f : Files) → (cause ≡ WithoutMemory) ⊎ HasNone text cause → Sent (Sends SendsSo text cause) f f
-    none_sends cause f none = record { sent = []; output = sym (append-nil f.output); contents = refl; answer = sends_none cause none }
+    none_sends cause f none = record { sent = []; output = sym (append-nil f.output); rest = refl; answer = sends_none cause none }
 
 -- what is judged is the whole text, for one of more bytes is too long, as its front is
 still_too_long : (text : List ℕ) (cause : Cause) → 65536 < length text → HasNone (take 65537 text) cause → HasNone text cause
@@ -161,10 +161,10 @@ module _ (command : Command) (name : List ℕ) (named : name ≡ script_of comma
     script_sends f f1 f2 reads sends = record {
       sent = sends.sent;
       output = sends.output ∙ ap (λ (o : List ℕ). o ++ sends.sent) reads.output;
-      contents = sends.contents ∙ reads.contents;
+      rest = keeps_on f f1 f2 reads.rest sends.rest;
       answer = read sends.sent (judged_whole (SendsFor command f.contents) (f.contents (script_of command)) cause sends.sent
           (subst (λ (b : List ℕ). Sends (SendsFor command f.contents) b cause sends.sent) (is ∙ sym reads.front ∙ ap (λ (n : List ℕ). take 65537 (f.contents n)) named)
-          (subst (λ (c : List ℕ → List ℕ). Sends (SendsFor command c) text cause sends.sent) reads.contents sends.answer)));
+          (subst (λ (c : List ℕ → List ℕ). Sends (SendsFor command c) text cause sends.sent) (contents_kept f f1 reads.rest) sends.answer)));
     }
 
     pub script_logs : (l l1 l2 : List Event) → LogsRead name 65537 items (Ok t) l l1 → Logs (Judges (Does command) text) cause l1 l2
@@ -186,7 +186,7 @@ module _ (command : Command) (name : List ℕ) (named : name ≡ script_of comma
     unread_sends f f1 reads = record {
       sent = [];
       output = reads.output ∙ sym (append-nil f.output);
-      contents = reads.contents;
+      rest = reads.rest;
       answer = unread (unread_cause e);
     }
 
@@ -251,7 +251,7 @@ same_command words (Show a) (Show b) first second = ap Show (script_is words _ _
 module _ (words : List (List ℕ)) where
   pub words_send : (command : Command) (cause : Cause) (f f' : Files) → IsCommand words command → Sent (SendsScript (SendsFor command f.contents) f.contents (script_of command) cause) f f'
       → Sent (Answers words f.contents cause) f f'
-  words_send command cause f f' is sends = record { sent = sends.sent; output = sends.output; contents = sends.contents; answer = of_command command sends.sent is sends.answer }
+  words_send command cause f f' is sends = record { sent = sends.sent; output = sends.output; rest = sends.rest; answer = of_command command sends.sent is sends.answer }
 
   pub words_log : (command : Command) (cause : Cause) (l l' : List Event) → IsCommand words command → Called (ReadsAndJudges (Does command) (script_of command) cause) l l' → Called (Calls words cause) l l'
   words_log command cause l l' is called = record { reading = called.reading; calls = called.calls; log = called.log; answer = of_command command called.reading called.calls is called.answer }
@@ -265,7 +265,7 @@ module _ (words : List (List ℕ)) where
   refused_calls words_refusal.NoMemory none = no_memory refl
 
   pub refused_send : (refusal : WordsRefusal) (f : Files) → IsRead words (Err refusal) → Sent (Answers words f.contents (words_cause refusal)) f f
-  refused_send refusal f is = record { sent = []; output = sym (append-nil f.output); contents = refl; answer = refused_answer refusal f.contents is }
+  refused_send refusal f is = record { sent = []; output = sym (append-nil f.output); rest = refl; answer = refused_answer refusal f.contents is }
 
   pub refused_log : (refusal : WordsRefusal) (l : List Event) → IsRead words (Err refusal) → Called (Calls words (words_cause refusal)) l l
   refused_log refusal l is = record { reading = []; calls = []; log = sym (append-nil l); answer = refused_calls refusal is }

@@ -2,6 +2,7 @@ mod CommandSteps
 mod Fronts
 mod JudgeSteps
 mod PassSteps
+mod RestSteps
 mod ScriptSteps
 mod SeenSteps
 mod TakeSteps

@@ -16,7 +16,8 @@ use Rattle.cd_world.specs.Events.{gave, given_by, bytes_given, written_by, writt
 use Rattle.cd_world.specs.Files.{Files, left_at, with_output, ReadsFile}
 use Rattle.cd_meaning.specs.Words.{Mark, AtEnd, MayGoOn, Broken}
 use Rattle.cd_cli.specs.Seen.{mark_of}
-use Rattle.cd_cli.specs.Take.{is_failure, IsCalm, NoneFailed, Passing, IsMove, LogsFront, HasEnough, LogsPass}
+use Rattle.cd_cli.specs.Take.{is_failure, IsCalm, KeepsRest, NoneFailed, Passing, IsMove, LogsFront, HasEnough, LogsPass}
+use Rattle.cd_cli.proofs.RestSteps.{keeps_on, keeps_by}
 use Rattle.cd_cli.proofs.Fronts.{take-append, take_least, take-given, left_after_read}
 use Rattle.cd_cli.proofs.SeenSteps.{goes_on_unbroken, mark_behind}
 use Rattle.cd_cli.proofs.WriteSteps.{nothing_more, answered, IsUnfailed}
@@ -24,32 +25,32 @@ use Rattle.cd_cli.proofs.WriteSteps.{nothing_more, answered, IsUnfailed}
 -- the files
 
 pub pass_none : (d : ℕ) (name : List ℕ) (count : ℕ) (f : Files) → Passing d name count (take count (left_at d name f)) f f
-pass_none d name count f = record { sent = []; front = refl; output = sym (append-nil f.output); contents = refl }
+pass_none d name count f = record { sent = []; front = refl; output = sym (append-nil f.output); rest = refl }
 
 module _ (d : ℕ) (name : List ℕ) (count : ℕ) (f f1 f2 : Files) (behind : List ℕ) (so_far : Passing d name count behind f f1) where
   -- some bytes more of those behind
-  pub pass_more : (bytes behind' : List ℕ) → behind ≡ bytes ++ behind' → f2.output ≡ f1.output ++ bytes → f2.contents ≡ f1.contents → Passing d name count behind' f f2
-  pass_more bytes behind' split output contents = record {
+  pub pass_more : (bytes behind' : List ℕ) → behind ≡ bytes ++ behind' → f2.output ≡ f1.output ++ bytes → KeepsRest f1 f2 → Passing d name count behind' f f2
+  pass_more bytes behind' split output rest = record {
     sent = so_far.sent ++ bytes;
     front = so_far.front ∙ ap (λ (b : List ℕ). so_far.sent ++ b) split ∙ sym (append_assoc so_far.sent bytes behind');
     output = output ∙ ap (λ (o : List ℕ). o ++ bytes) so_far.output ∙ append_assoc f.output so_far.sent bytes;
-    contents = contents ∙ so_far.contents;
+    rest = keeps_on f f1 f2 so_far.rest rest;
   }
 
-  pub pass_idle : f2.output ≡ f1.output → f2.contents ≡ f1.contents → Passing d name count behind f f2
-  pass_idle output contents = pass_more [] behind refl (output ∙ sym (append-nil f1.output)) contents
+  pub pass_idle : f2.output ≡ f1.output → KeepsRest f1 f2 → Passing d name count behind f f2
+  pass_idle output rest = pass_more [] behind refl (output ∙ sym (append-nil f1.output)) rest
 
 module _ (from : Descriptor) (name : List ℕ) (count : ℕ) (f f1 f2 : Files) (behind into : List ℕ) (so_far : Passing from.0 name count behind f f1) where
   -- a read that was refused
   pub pass_refused : (e : WorldError) → ReadsFile from.0 name into (Err e) f1 f2 → Passing from.0 name count behind f f2
-  pass_refused e files = pass_idle from.0 name count f f1 f2 behind so_far (ap (λ (f : Files). f.output) files) (ap (λ (f : Files). f.contents) files)
+  pass_refused e files = pass_idle from.0 name count f f1 f2 behind so_far (ap (λ (f : Files). f.output) files) (keeps_by f1 f2 f1 files refl)
 
   -- a read that told the end
   pub pass_end : (left k : ℕ) → behind ≡ take left (left_at from.0 name f1) → k ≡ 0 → ReadsFile from.0 name into (Ok k) f1 f2 → Passing from.0 name count [] f f2
   pass_end left k is zero read =
       let nothing : behind ≡ [] = is ∙ ap (λ (b : List ℕ). take left b) (read.0.end zero) ∙ take-nil left in
       subst (λ (b : List ℕ). Passing from.0 name count b f f2) nothing
-      (pass_idle from.0 name count f f1 f2 behind so_far (ap (λ (f : Files). f.output) read.1) (ap (λ (f : Files). f.contents) read.1))
+      (pass_idle from.0 name count f f1 f2 behind so_far (ap (λ (f : Files). f.output) read.1) (keeps_by f1 f2 _ read.1 refl))
 
   -- a read that gave bytes, and a write of a front of them
   pub pass_turn : (left k n : ℕ) (slice sent kept : List ℕ) (f3 : Files) → behind ≡ take left (left_at from.0 name f1) → k ≤ length into → n ≡ min left k → slice ≡ take n into
@@ -58,7 +59,7 @@ module _ (from : Descriptor) (name : List ℕ) (count : ℕ) (f f1 f2 : Files) (
   pass_turn left k n slice sent kept f3 is fits n_is slice_is read parts out = pass_more from.0 name count f f1 f3 behind so_far sent (kept ++ take (left - n) (left_at from.0 name f3))
       split
       (ap (λ (f : Files). f.output) out ∙ ap (λ (f : Files). f.output ++ sent) read.1)
-      (ap (λ (f : Files). f.contents) out ∙ ap (λ (f : Files). f.contents) read.1)
+      (keeps_on f1 f2 f3 (keeps_by f1 f2 _ read.1 refl) (keeps_by f2 f3 _ out refl))
     where
       left_is : left_at from.0 name f3 ≡ drop k (left_at from.0 name f1)
       left_is = ap (λ (f : Files). left_at from.0 name f) (out ∙ ap (with_output sent) read.1) ∙ left_after_read from.0 name k f1

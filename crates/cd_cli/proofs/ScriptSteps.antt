@@ -21,13 +21,15 @@ use Rattle.cd_world.specs.Live.{open_as}
 use Rattle.cd_world.specs.Files.{Files, left_at, with_given, after_open, ReadsFile, ClosesFile}
 use Rattle.cd_cli.specs.Script.{StopsIn, ComesFrom, TriesRead, Fills, IsGaveOn, Reads, LogsFill, ReadsWhole, none_called, open_failed, opened_closed, ReadsFront, LogsRead}
 use Rattle.cd_cli.specs.Cause.{answer_of}
+use Rattle.cd_cli.specs.Take.{KeepsRest}
+use Rattle.cd_cli.proofs.RestSteps.{keeps_on, keeps_by}
 use Rattle.cd_cli.proofs.Fronts.{take-given, left_after_read}
 use Rattle.cd_cli.proofs.WriteSteps.{nothing_more, answered}
 
 -- the files once so much of a buffer is filled
 pub record Filling (d : ℕ) (name : List ℕ) (filled : ℕ) (buffer : List ℕ) (f f' : Files) : Type 0 where
   pub output : f'.output ≡ f.output
-  pub contents : f'.contents ≡ f.contents
+  pub rest : KeepsRest f f'
   pub front : take (length buffer) (left_at d name f) ≡ take filled buffer ++ take (length buffer - filled) (left_at d name f')
 
 -- the calls once so much of a buffer is filled
@@ -57,7 +59,7 @@ module _ (filled k count : ℕ) (buffer into : List ℕ) (fits : filled ≤ leng
 -- the files
 
 pub fill_none : (d : ℕ) (name buffer : List ℕ) (f : Files) → Filling d name 0 buffer f f
-fill_none d name buffer f = let all : length buffer ≡ length buffer - 0 = omega arith in record { output = refl; contents = refl; front = ap (λ (n : ℕ). take n (left_at d name f)) all }
+fill_none d name buffer f = let all : length buffer ≡ length buffer - 0 = omega arith in record { output = refl; rest = refl; front = ap (λ (n : ℕ). take n (left_at d name f)) all }
 
 module _ (d : ℕ) (name : List ℕ) (filled k : ℕ) (buffer into : List ℕ) (f f1 f2 : Files) (so_far : Filling d name filled buffer f f1)
     (fits : filled ≤ length buffer) (k_is : k ≡ length buffer - filled) (size : length into ≡ k) where
@@ -66,7 +68,7 @@ module _ (d : ℕ) (name : List ℕ) (filled k : ℕ) (buffer into : List ℕ) (
       → ReadsFile d name into (Err e) f1 f2 → Fills d name (put_mid filled k buffer into) result f f2
   fill_refused result e front files = record {
     output = ap (λ (f : Files). f.output) files ∙ so_far.output;
-    contents = ap (λ (f : Files). f.contents) files ∙ so_far.contents;
+    rest = keeps_on f f1 f2 so_far.rest (keeps_by f1 f2 f1 files refl);
     front = front;
   }
 
@@ -74,7 +76,7 @@ module _ (d : ℕ) (name : List ℕ) (filled k : ℕ) (buffer into : List ℕ) (
   pub fill_more : (count : ℕ) → count ≤ k → ReadsFile d name into (Ok count) f1 f2 → Filling d name (filled + count) (put_mid filled k buffer into) f f2
   fill_more count within read = record {
     output = ap (λ (f : Files). f.output) read.1 ∙ so_far.output;
-    contents = ap (λ (f : Files). f.contents) read.1 ∙ so_far.contents;
+    rest = keeps_on f f1 f2 so_far.rest (keeps_by f1 f2 _ read.1 refl);
     front =
         let least : count ≡ min (length buffer - filled) count = omega arith in
         let rest : length buffer - filled - count ≡ length (put_mid filled k buffer into) - (filled + count) = omega (arith, size_is filled k count buffer into fits k_is size within) in
@@ -91,7 +93,7 @@ module _ (d : ℕ) (name : List ℕ) (filled k : ℕ) (buffer into : List ℕ) (
   pub fill_end : (count : ℕ) → count ≡ 0 → ReadsFile d name into (Ok count) f1 f2 → Fills {E = WorldError} d name (put_mid filled k buffer into) (Ok filled) f f2
   fill_end count zero read = record {
     output = ap (λ (f : Files). f.output) read.1 ∙ so_far.output;
-    contents = ap (λ (f : Files). f.contents) read.1 ∙ so_far.contents;
+    rest = keeps_on f f1 f2 so_far.rest (keeps_by f1 f2 _ read.1 refl);
     front = ap (λ (n : ℕ). take n (left_at d name f)) (size_is filled k 0 buffer into fits k_is size (omega arith))
         ∙ so_far.front
         ∙ ap (λ (b : List ℕ). take filled buffer ++ take (length buffer - filled) b) (read.0.end zero)
@@ -105,7 +107,7 @@ pub fill_full : (d : ℕ) (name : List ℕ) (filled : ℕ) (buffer : List ℕ) (
 fill_full d name filled buffer f f' so_far full =
     let none : length buffer - filled ≡ 0 = omega arith in record {
       output = so_far.output;
-      contents = so_far.contents;
+      rest = so_far.rest;
       front = so_far.front ∙ ap (λ (n : ℕ). take filled buffer ++ take n (left_at d name f')) none ∙ append-nil (take filled buffer);
     }
 
@@ -183,14 +185,13 @@ module _ (d : Descriptor) (filled k : ℕ) (buffer into : List ℕ) (l l1 l2 : L
 -- a file that is opened, read and closed
 
 kept_if : {T U : Type 0} (answer : Result T WorldError) (closing : Result U CloseFailed) (P : T → Type 0) → IfOk answer P → IfOk (answer_of answer closing) P
-kept_if (Ok done) (Ok shut) P p = p
-kept_if (Ok done) (Err failed) P p = tt
-kept_if (Err error) closing P p = tt
+kept_if answer (Ok shut) P p = p
+kept_if answer (Err failed) P p = tt
 
 module _ (name : List ℕ) (size : ℕ) (f : Files) where
   -- nothing was read
   pub front_none : {T : Type 0} (text : T → List ℕ) (result : Result T WorldError) (f' : Files) → IfOk result (λ t. take size (f.contents name) ≡ text t) → f' ≡ f → ReadsFront name size text result f f'
-  front_none text result f' front same = record { output = ap (λ (f : Files). f.output) same; contents = ap (λ (f : Files). f.contents) same; front = front }
+  front_none text result f' front same = record { output = ap (λ (f : Files). f.output) same; rest = keeps_by f f' f same refl; front = front }
 
 -- the file was opened, and a buffer filled
 module _ (name buffer : List ℕ) (d : Descriptor) (f f1 f2 f3 : Files) (answer : Result ℕ WorldError) (fills : Fills d.0 name buffer answer f1 f2) (opens : f1 ≡ after_open Reading name (Ok d) f) where
@@ -206,15 +207,14 @@ module _ (name buffer : List ℕ) (d : Descriptor) (f f1 f2 f3 : Files) (answer 
   front_end : {U : Type 0} (closing : Result U CloseFailed) (result : Result ℕ WorldError) → result ≡ answer_of answer closing → f3 ≡ with_given d.0 0 f2 → ReadsFront name (length buffer) (λ n. take n buffer) result f f3
   front_end closing result is files = record {
     output = ap (λ (f : Files). f.output) files ∙ fills.output ∙ ap (λ (f : Files). f.output) opens;
-    contents = ap (λ (f : Files). f.contents) files ∙ fills.contents ∙ ap (λ (f : Files). f.contents) opens;
+    rest = keeps_on f f1 f3 (keeps_by f f1 _ opens refl) (keeps_on f1 f2 f3 fills.rest (keeps_by f2 f3 _ files refl));
     front = subst (λ (r : Result ℕ WorldError). IfOk r (λ n. take (length buffer) (f.contents name) ≡ take n buffer)) (sym is)
         (kept_if answer closing _ (front_of answer fills.front));
   }
 
   pub front_closed : {U : Type 0} (closing : Result U CloseFailed) (result : Result ℕ WorldError) → result ≡ answer_of answer closing → ClosesFile (open_as Reading d name) closing f2 f3
       → ReadsFront name (length buffer) (λ n. take n buffer) result f f3
-  front_closed (Ok shut) result is files = front_end (Ok shut) result is files
-  front_closed (Err failed) result is files = front_end (Err failed) result is files
+  front_closed closing result is files = front_end closing result is files
 
 -- the calls
 
@@ -232,10 +232,10 @@ module _ {T : Type 0} (name : List ℕ) (size : ℕ) (text : T → List ℕ) (l 
   pub log_front_refused : (result : Result T WorldError) (l' : List Event) (e : WorldError) → IsErrAnd result (λ y. y ≡ e) → l' ≡ l ++ opened Reading name (Err e) → LogsRead name size text result l l'
   log_front_refused result l' e is log = subst (λ (r : Result T WorldError). LogsRead name size text r l l') (sym (answered result e is)) (not_opened l' e log)
 
--- the last call of a fill that was refused
-stops_from : (d : Descriptor) (last : List Event) (end : Event) (e : WorldError) → StopsIn d last e → ComesFrom d last end e
-stops_from d last end Failed stops = inl stops
-stops_from d last end NoMemory stops = stops
+-- the last call of a fill that was refused, behind which the close went well
+stops_from : (d : Descriptor) (last : List Event) (e : WorldError) → StopsIn d last e → ComesFrom d last (Closed d) e
+stops_from d last Failed stops = inl stops
+stops_from d last NoMemory stops = (stops, refl)
 
 module _ (name buffer : List ℕ) (d : Descriptor) (l l1 l2 l3 : List Event) (opens : l1 ≡ l ++ opened Reading name (Ok d)) where
   log_front_end : (answer result : Result ℕ WorldError) (fills : LogsFill d buffer answer l1 l2) (end : Event) → l3 ≡ l2 ++ end ∷ []
@@ -263,6 +263,6 @@ module _ (name buffer : List ℕ) (d : Descriptor) (l l1 l2 l3 : List Event) (op
   }) tt
   log_front_closed (Ok n) (Err failed) fills log = log_front_end (Ok n) (Err Failed) fills (CloseFailing d) log tt (opened_closed Failed d fills.gives fills.last (CloseFailing d) fills.reads refl (inr refl))
   log_front_closed (Err e) (Ok shut) fills log = log_front_end (Err e) (Err e) fills (Closed d) log tt
-      (opened_closed e d fills.gives fills.last (Closed d) fills.reads refl (stops_from d fills.last (Closed d) e fills.stopped))
-  log_front_closed (Err e) (Err failed) fills log = log_front_end (Err e) (Err e) fills (CloseFailing d) log tt
-      (opened_closed e d fills.gives fills.last (CloseFailing d) fills.reads refl (stops_from d fills.last (CloseFailing d) e fills.stopped))
+      (opened_closed e d fills.gives fills.last (Closed d) fills.reads refl (stops_from d fills.last e fills.stopped))
+  log_front_closed (Err e) (Err failed) fills log = log_front_end (Err e) (Err Failed) fills (CloseFailing d) log tt
+      (opened_closed Failed d fills.gives fills.last (CloseFailing d) fills.reads refl (inr refl))

@@ -17,42 +17,15 @@ use Rattle.cd_world.specs.Events.{opened, closed, given_by, bytes_given, written
 use Rattle.cd_world.specs.Files.{Files, left_at, with_given, after_open, ClosesFile}
 use Rattle.cd_world.specs.Live.{open_as}
 use Rattle.cd_cli.specs.Cause.{answer_of}
-use Rattle.cd_cli.specs.Take.{is_failure, is_fault, IsCalm, IsNoFault, NoneFailed, NoneFaulted, Passes, HasEnough, LogsPass, none_called, open_refused, open_closed, Takes, LogsTake}
+use Rattle.cd_cli.specs.Take.{IsCalm, NoneFailed, Passes, HasEnough, LogsPass, none_called, open_refused, open_closed, Takes, LogsTake}
 use Rattle.std.proofs.lemmas.List.Elements.{All-append, All-cons}
+use Rattle.cd_cli.proofs.RestSteps.{keeps_on, keeps_by}
 use Rattle.cd_cli.proofs.SeenSteps.{end_stays}
-use Rattle.cd_cli.proofs.WriteSteps.{nothing_more, on_ok, answered, on_refused, IsUnfailed, ok_unfailed, unless_failed}
+use Rattle.cd_cli.proofs.WriteSteps.{nothing_more, on_ok, answered, on_refused, IsUnfailed}
 
 kept : {T U : Type 0} (answer : Result T WorldError) (closing : Result U CloseFailed) (P : Type 0) → OnOk answer P → OnOk (answer_of answer closing) P
-kept (Ok done) (Ok shut) P p = p
-kept (Ok done) (Err failed) P p = tt
-kept (Err error) closing P p = tt
-
--- a close that fails is no success
-failed_close : (U : Type 0) {T : Type 0} (answer : Result T WorldError) (failed : CloseFailed) (P : Type 0) → OnOk (answer_of {U = U} answer (Err failed)) P
-failed_close U (Ok done) failed P = tt
-failed_close U (Err error) failed P = tt
-
--- what was answered before the close is no failure, where the whole answer is none
-before_close : {T U : Type 0} (answer : Result T WorldError) (closing : Result U CloseFailed) → IsUnfailed (answer_of answer closing) → IsUnfailed answer
-before_close (Ok done) closing unfailed = ok_unfailed done
-before_close (Err error) closing unfailed = unfailed
-
--- a call that did not fail is no fault
-calm_is_no_fault : (e : Event) → is_failure e ≡ false → is_fault e ≡ false
-calm_is_no_fault (OpenedRead name d) calm = refl
-calm_is_no_fault (Created name d) calm = refl
-calm_is_no_fault (Marked name d) calm = refl
-calm_is_no_fault (OpenFailed name) calm = calm
-calm_is_no_fault (Gave d bytes) calm = refl
-calm_is_no_fault (GaveEnd d) calm = refl
-calm_is_no_fault (ReadFailed d) calm = calm
-calm_is_no_fault (Wrote d bytes) calm = refl
-calm_is_no_fault (WriteFailed d) calm = calm
-calm_is_no_fault (Closed d) calm = refl
-calm_is_no_fault (CloseFailing d) calm = refl
-
-none_faulted : (events : List Event) → NoneFailed events → NoneFaulted events
-none_faulted events calm k e lt = calm_is_no_fault _ (calm k e lt)
+kept answer (Ok shut) P p = p
+kept answer (Err failed) P p = tt
 
 -- the files
 
@@ -65,7 +38,7 @@ module _ (name : List ℕ) (count : ℕ) (f : Files) where
     front = refl;
     whole = whole;
     output = ap (λ (f : Files). f.output) same ∙ sym (append-nil f.output);
-    contents = ap (λ (f : Files). f.contents) same;
+    rest = keeps_by f f' f same refl;
   }
 
   -- the file was opened, passed on and closed
@@ -83,12 +56,11 @@ module _ (name : List ℕ) (count : ℕ) (f : Files) where
       front = ap (λ (b : List ℕ). take count b) (sym contents_are) ∙ passes.passing.front;
       whole = whole;
       output = ap (λ (f : Files). f.output) files ∙ passes.passing.output ∙ ap (λ (f : Files). f.output ++ passes.passing.sent) opens;
-      contents = ap (λ (f : Files). f.contents) files ∙ passes.passing.contents ∙ ap (λ (f : Files). f.contents) opens;
+      rest = keeps_on f f1 f3 (keeps_by f f1 _ opens refl) (keeps_on f1 f2 f3 passes.passing.rest (keeps_by f2 f3 _ files refl));
     }
 
     pub takes_closed : {U : Type 0} (closing : Result U CloseFailed) (result : Result T WorldError) → result ≡ answer_of answer closing → ClosesFile (open_as Reading d name) closing f2 f3 → Takes name count result f f3
-    takes_closed (Ok shut) result is files = takes_end result (subst (λ (r : Result T WorldError). OnOk r (passes.behind ≡ [])) (sym is) (kept answer (Ok shut) _ passes.whole)) files
-    takes_closed (Err failed) result is files = takes_end result (subst (λ (r : Result T WorldError). OnOk r (passes.behind ≡ [])) (sym is) (kept answer (Err failed) _ passes.whole)) files
+    takes_closed closing result is files = takes_end result (subst (λ (r : Result T WorldError). OnOk r (passes.behind ≡ [])) (sym is) (kept answer closing _ passes.whole)) files
 
 -- the calls
 
@@ -103,8 +75,7 @@ module _ (name : List ℕ) (count : ℕ) (l : List Event) where
     front = take-nil count;
     whole = whole;
     enough = enough;
-    calm = on_ok result (λ none. nothing_more IsCalm) whole;
-    blamed = λ unfailed. nothing_more IsNoFault;
+    calm = λ unfailed. nothing_more IsCalm;
   }
 
   -- the open was refused
@@ -117,8 +88,7 @@ module _ (name : List ℕ) (count : ℕ) (l : List Event) where
     front = take-nil count;
     whole = on_refused result Failed is _;
     enough = on_refused result Failed is _;
-    calm = on_refused result Failed is _;
-    blamed = λ unfailed. absurd (unfailed (answered result Failed is));
+    calm = λ unfailed. absurd (unfailed (answered result Failed is));
   }
   logs_refused result l' NoMemory is log = record {
     part = [];
@@ -128,8 +98,7 @@ module _ (name : List ℕ) (count : ℕ) (l : List Event) where
     front = take-nil count;
     whole = on_refused result NoMemory is _;
     enough = on_refused result NoMemory is _;
-    calm = on_refused result NoMemory is _;
-    blamed = λ unfailed. nothing_more IsNoFault;
+    calm = λ unfailed. nothing_more IsCalm;
   }
 
   -- the file was opened, passed on and closed
@@ -138,13 +107,9 @@ module _ (name : List ℕ) (count : ℕ) (l : List Event) where
     enough_of end given (inl many) = inl (subst (λ (b : List ℕ). count ≤ length b) (sym given) many)
     enough_of end given (inr told) = inr (end_stays passes.part (end ∷ []) told)
 
-    blamed_of : (end : Event) → is_fault end ≡ false → NoneFailed passes.part → NoneFaulted (OpenedRead name d ∷ passes.part ++ end ∷ [])
-    blamed_of end no_fault calm = All-append IsNoFault (OpenedRead name d ∷ passes.part) (end ∷ []) (All-cons IsNoFault _ passes.part refl (none_faulted passes.part calm))
-        (All-cons IsNoFault end [] no_fault (nothing_more IsNoFault))
-
-    logs_end : (result : Result T WorldError) (end : Event) → IsCloseOf d end → given_by end ≡ [] → written_by 1 end ≡ [] → is_fault end ≡ false → OnOk result (passes.behind ≡ []) → OnOk result (HasEnough count passes.part)
-        → OnOk result (NoneFailed (OpenedRead name d ∷ passes.part ++ end ∷ [])) → (IsUnfailed result → IsUnfailed answer) → l3 ≡ l2 ++ end ∷ [] → LogsTake name count result l l3
-    logs_end result end is_close gives writes no_fault whole enough calm before log =
+    logs_end : (result : Result T WorldError) (end : Event) → IsCloseOf d end → given_by end ≡ [] → written_by 1 end ≡ [] → OnOk result (passes.behind ≡ []) → OnOk result (HasEnough count passes.part)
+        → (IsUnfailed result → NoneFailed (OpenedRead name d ∷ passes.part ++ end ∷ [])) → l3 ≡ l2 ++ end ∷ [] → LogsTake name count result l l3
+    logs_end result end is_close gives writes whole enough calm log =
         let given : bytes_given (passes.part ++ end ∷ []) ≡ bytes_given passes.part = flat_map-append given_by passes.part (end ∷ []) ∙ ap (λ (b : List ℕ). bytes_given passes.part ++ (b ++ [])) gives ∙ append-nil (bytes_given passes.part) in
         let wrote : written_to 1 (passes.part ++ end ∷ []) ≡ written_to 1 passes.part = flat_map-append (written_by 1) passes.part (end ∷ []) ∙ ap (λ (b : List ℕ). written_to 1 passes.part ++ (b ++ [])) writes ∙ append-nil (written_to 1 passes.part) in
         record {
@@ -157,21 +122,18 @@ module _ (name : List ℕ) (count : ℕ) (l : List Event) where
           whole = whole;
           enough = on_ok result (enough_of end given) enough;
           calm = calm;
-          blamed = λ unfailed. blamed_of end no_fault (passes.calm (before unfailed));
         }
 
     kept_by : {U : Type 0} (closing : Result U CloseFailed) (result : Result T WorldError) → result ≡ answer_of answer closing → (P : Type 0) → OnOk answer P → OnOk result P
     kept_by closing result is P p = subst (λ (r : Result T WorldError). OnOk r P) (sym is) (kept answer closing P p)
 
-    unfailed_before : {U : Type 0} (closing : Result U CloseFailed) (result : Result T WorldError) → result ≡ answer_of answer closing → IsUnfailed result → IsUnfailed answer
-    unfailed_before closing result is unfailed = before_close answer closing (subst (λ (r : Result T WorldError). IsUnfailed r) is unfailed)
+    none_by : (result : Result T WorldError) → result ≡ Err Failed → (P : Type 0) → OnOk result P
+    none_by result is P = subst (λ (r : Result T WorldError). OnOk r P) (sym is) tt
 
     closed_calm : NoneFailed passes.part → NoneFailed (OpenedRead name d ∷ passes.part ++ Closed d ∷ [])
     closed_calm calm = All-append IsCalm (OpenedRead name d ∷ passes.part) (Closed d ∷ []) (All-cons IsCalm _ passes.part refl calm) (All-cons IsCalm _ [] refl (nothing_more IsCalm))
 
     pub logs_closed : {U : Type 0} (closing : Result U CloseFailed) (result : Result T WorldError) → result ≡ answer_of answer closing → l3 ≡ l2 ++ closed d closing → LogsTake name count result l l3
-    logs_closed (Ok shut) result is log = logs_end result (Closed d) refl refl refl refl (kept_by (Ok shut) result is _ passes.whole) (kept_by (Ok shut) result is _ passes.enough)
-        (on_ok result closed_calm (kept_by (Ok shut) result is _ (unless_failed answer _ passes.calm))) (unfailed_before (Ok shut) result is) log
-    logs_closed (Err failed) result is log = logs_end result (CloseFailing d) refl refl refl refl (kept_by (Err failed) result is _ passes.whole) (kept_by (Err failed) result is _ passes.enough)
-        (subst (λ (r : Result T WorldError). OnOk r (NoneFailed (OpenedRead name d ∷ passes.part ++ CloseFailing d ∷ []))) (sym is) (failed_close _ answer failed _))
-        (unfailed_before (Err failed) result is) log
+    logs_closed (Ok shut) result is log = logs_end result (Closed d) refl refl refl (kept_by (Ok shut) result is _ passes.whole) (kept_by (Ok shut) result is _ passes.enough)
+        (λ unfailed. closed_calm (passes.calm (subst (λ (r : Result T WorldError). IsUnfailed r) is unfailed))) log
+    logs_closed (Err failed) result is log = logs_end result (CloseFailing d) refl refl refl (none_by result is _) (none_by result is _) (λ unfailed. absurd (unfailed is)) log

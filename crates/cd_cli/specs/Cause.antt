@@ -1,5 +1,5 @@
 -- How a run of the command ended.
-use Rattle.std.specs.Prelude.{◌≡◌, ◌≤◌, ℕ, Result, Ok, Err}
+use Rattle.std.specs.Prelude.{◌≡◌, ◌≢◌, ℕ, Result, Ok, Err}
 use Rattle.cd_world.specs.Causes.{Rose}
 use Rattle.cd_world.specs.declared.world.CloseFailed.{CloseFailed}
 use Rattle.cd_world.specs.declared.world.WorldError.{WorldError}
@@ -44,14 +44,13 @@ cause_of_refusal (refusal.Syntax at) = cause.Syntax at
 cause_of_refusal (refusal.Limit which at) = cause.Limit which at
 cause_of_refusal refusal.NoMemory = cause.NoMemory
 
--- the count of failed calls doesn't fall, and a fault is the cause only where it rose
+-- A fault is the cause where the count of failed calls rose, and with every other cause it stays.
 pub record HasOrigin (before now : ℕ) (given : Cause) : Type 0 where
-  pub later : before ≤ now
   pub fault : given ≡ cause.OutsideFault → Rose before now
   pub script_fault : given ≡ cause.ScriptFault → Rose before now
+  pub calm : given ≢ cause.OutsideFault → given ≢ cause.ScriptFault → now ≡ before
 
--- A close that fails is the answer where there is no other failure.
+-- A close that fails is the answer, whatever was answered before it.
 abbrev pub answer_of : {T U : Type 0} → Result T WorldError → Result U CloseFailed → Result T WorldError
-answer_of (Ok answer) (Ok done) = Ok answer
-answer_of (Ok answer) (Err refused) = Err Failed
-answer_of (Err error) closing = Err error
+answer_of answer (Ok done) = answer
+answer_of answer (Err refused) = Err Failed

@@ -21,7 +21,7 @@ use Rattle.cd_cli.specs.Form.{NoForm}
 use Rattle.cd_cli.specs.Judge.{HasTree, HasNone, IsScriptOf}
 use Rattle.cd_cli.specs.Script.{ReadsWhole, TriesRead}
 use Rattle.cd_cli.specs.Seen.{seen_of}
-use Rattle.cd_cli.specs.Take.{NoneFailed, NoneFaulted, OpensAndCloses}
+use Rattle.cd_cli.specs.Take.{KeepsRest, NoneFailed, OpensAndCloses}
 
 -- a run came to its end, or a call on the outside was refused, or memory was wanting
 abbrev pub IsRunCause : Cause → Type 0
@@ -34,15 +34,14 @@ IsUnread cause = (cause ≡ ScriptFault) ⊎ (cause ≡ NoMemory)
 -- ---- by what was called
 
 -- A script of the form was run by these calls. They wrote a front of what standard output gets of its meaning over what
--- was seen; and all of that, it is done and no call failed, where the cause is Success. No call but the close failed, unless that is the cause.
+-- was seen; and all of that, and it is done, where the cause is Success. No call failed, unless that is the cause.
 pub record Runs (name : List ℕ) (count : ℕ) (cause : Cause) (calls : List Event) : Type 0 where
   pub shape : OpensAndCloses name calls
   pub behind : List ℕ
   pub puts : standard_output (take_script name count) (seen_of calls) ≡ written_to 1 calls ++ behind
   pub whole : cause ≡ Success → behind ≡ []
   pub done : cause ≡ Success → ending (script_run (take_script name count) (seen_of calls)) ≡ Done Value.Unit
-  pub calm : cause ≡ Success → NoneFailed calls
-  pub blamed : cause ≢ OutsideFault → NoneFaulted calls
+  pub calm : cause ≢ OutsideFault → NoneFailed calls
 
 -- A tree was run by these calls where it is of the form.
 pub data RunsTree (tree : List Stmt) (cause : Cause) : List Event → Type 0 where
@@ -143,11 +142,12 @@ pub data Answers (words : List (List ℕ)) (contents : List ℕ → List ℕ) (c
   of_command : (command : Command) (sent : List ℕ) → IsCommand words command → SendsScript (SendsFor command contents) contents (script_of command) cause sent
       → Answers words contents cause sent
 
--- What was sent in all, by the answer to a tree, a text, a script, and to the words. No file is changed.
+-- What was sent in all, by the answer to a tree, a text, a script, and to the words. No file is changed, nothing is taken of standard input, and
+-- standard error gets nothing.
 pub record Sent (Answer : List ℕ → Type 0) (f f' : Files) : Type 0 where
   pub sent : List ℕ
   pub output : f'.output ≡ f.output ++ sent
-  pub contents : f'.contents ≡ f.contents
+  pub rest : KeepsRest f f'
   pub answer : Answer sent
 
 -- a text that this command takes: a script of the form to run, and any script to show

@@ -7,11 +7,12 @@ use Rattle.cd_world.specs.declared.world.WorldError.{WorldError}
 use Rattle.cd_world.specs.declared.world.WorldError.TheVariants.{Failed, NoMemory}
 use Rattle.cd_world.specs.Events.{bytes_given, IsCloseOf}
 use Rattle.cd_world.specs.Files.{Files, left_at}
+use Rattle.cd_cli.specs.Take.{KeepsRest}
 
 -- The front of a buffer has what was left of a file, up to the size of the buffer.
 pub record Fills {E : Type 0} (d : ℕ) (name buffer : List ℕ) (result : Result ℕ E) (f f' : Files) : Type 0 where
   pub output : f'.output ≡ f.output
-  pub contents : f'.contents ≡ f.contents
+  pub rest : KeepsRest f f'
   pub front : IfOk result (λ filled. take (length buffer) (left_at d name f) ≡ take filled buffer)
 
 -- a read that gave bytes
@@ -53,10 +54,11 @@ pub record ReadsWhole (name : List ℕ) (size : ℕ) (text : List ℕ) (events :
   pub whole : IsWhole d size gives last
   pub text_is : text ≡ bytes_given gives
 
--- A refusal of this sort came from the last read or from the close: one that failed, or one that memory was wanting for, which is no event.
+-- A refusal of this sort comes from the last read or from the close: one of them failed; or memory was wanting for the read, which is no event, and the close
+-- went well.
 abbrev pub ComesFrom : Descriptor → List Event → Event → WorldError → Type 0
 ComesFrom d last end Failed = (last ≡ ReadFailed d ∷ []) ⊎ (end ≡ CloseFailing d)
-ComesFrom d last end NoMemory = last ≡ []
+ComesFrom d last end NoMemory = (last ≡ []) × (end ≡ Closed d)
 
 -- Those of a try that was refused: nothing is called for want of memory; or the open fails; or the file is opened and read, and closed as the last call of all.
 pub data TriesRead (name : List ℕ) (size : ℕ) : WorldError → List Event → Type 0 where
@@ -68,7 +70,7 @@ pub data TriesRead (name : List ℕ) (size : ℕ) : WorldError → List Event �
 -- A file of at most this size was read whole, or this many bytes of another, and the text is what was read.
 pub record ReadsFront {T E : Type 0} (name : List ℕ) (size : ℕ) (text : T → List ℕ) (result : Result T E) (f f' : Files) : Type 0 where
   pub output : f'.output ≡ f.output
-  pub contents : f'.contents ≡ f.contents
+  pub rest : KeepsRest f f'
   pub front : IfOk result (λ t. take size (f.contents name) ≡ text t)
 
 -- The same by the calls.

@@ -25,19 +25,10 @@ IsCalm e = is_failure e ≡ false
 abbrev pub NoneFailed : List Event → Type 0
 NoneFailed events = All IsCalm events
 
--- a call that failed and was no close
-abbrev pub is_fault : Event → Bool
-is_fault (OpenFailed name) = true
-is_fault (ReadFailed from) = true
-is_fault (WriteFailed to) = true
-is_fault _ = false
-
-abbrev pub IsNoFault : Event → Type 0
-IsNoFault e = is_fault e ≡ false
-
--- no call failed, but closes may have
-abbrev pub NoneFaulted : List Event → Type 0
-NoneFaulted events = All IsNoFault events
+-- Of the files and streams nothing changed but what stands on standard output. How much was given on each descriptor is left open, for that is
+-- forgotten when the descriptor is closed.
+abbrev pub KeepsRest : Files → Files → Type 0
+KeepsRest f f' = f' ≡ record f { output = f'.output; given = f'.given }
 
 -- A front of these bytes was written to standard output, and all of them where that went well.
 pub record WritesFront {T E : Type 0} (bytes : List ℕ) (result : Result T E) (f f' : Files) : Type 0 where
@@ -62,7 +53,7 @@ pub record Passing (d : ℕ) (name : List ℕ) (count : ℕ) (behind : List ℕ)
   pub sent : List ℕ
   pub front : take count (left_at d name f) ≡ sent ++ behind
   pub output : f'.output ≡ f.output ++ sent
-  pub contents : f'.contents ≡ f.contents
+  pub rest : KeepsRest f f'
 
 -- All of them were written where that went well.
 pub record Passes {T E : Type 0} (d : ℕ) (name : List ℕ) (count : ℕ) (result : Result T E) (f f' : Files) : Type 0 where
@@ -102,7 +93,7 @@ pub record Takes {T E : Type 0} (name : List ℕ) (count : ℕ) (result : Result
   pub front : take count (f.contents name) ≡ sent ++ behind
   pub whole : OnOk result (behind ≡ [])
   pub output : f'.output ≡ f.output ++ sent
-  pub contents : f'.contents ≡ f.contents
+  pub rest : KeepsRest f f'
 
 -- Nothing is called; or the open is refused; or the file is opened, read and passed on, and then closed, as the last call of all.
 pub data OpensAndCloses (name : List ℕ) : List Event → Type 0 where
@@ -110,8 +101,8 @@ pub data OpensAndCloses (name : List ℕ) : List Event → Type 0 where
   open_refused : OpensAndCloses name (OpenFailed name ∷ [])
   open_closed : (d : Descriptor) (moves : List Event) (end : Event) → All (IsMove d.0) moves → IsCloseOf d end → OpensAndCloses name (OpenedRead name d ∷ moves ++ end ∷ [])
 
--- Of the first `count` bytes that were read a front was written. Where that went well all of them were, no more are to be had, and no call failed. No call but
--- the close failed, unless that is the answer.
+-- Of the first `count` bytes that were read a front was written. Where that went well all of them were, and no more are to be had. No call failed, unless that
+-- is the answer.
 pub record LogsTake {T : Type 0} (name : List ℕ) (count : ℕ) (result : Result T WorldError) (l l' : List Event) : Type 0 where
   pub part : List Event
   pub log : l' ≡ l ++ part
@@ -120,5 +111,4 @@ pub record LogsTake {T : Type 0} (name : List ℕ) (count : ℕ) (result : Resul
   pub front : take count (bytes_given part) ≡ written_to 1 part ++ behind
   pub whole : OnOk result (behind ≡ [])
   pub enough : OnOk result (HasEnough count part)
-  pub calm : OnOk result (NoneFailed part)
-  pub blamed : result ≢ Err Failed → NoneFaulted part
+  pub calm : result ≢ Err Failed → NoneFailed part

@@ -115,6 +115,3 @@ fn show_tree<W: World>(alloc: Global, world: &mut W, script: &Script) -> Cause
         Err(error) => Cause::from(error),
     }
 }
-
-#[cfg(test)]
-mod tests;

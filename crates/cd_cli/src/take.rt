@@ -57,17 +57,19 @@ fn pass_front<W: World>(
     Ok(())
 }
 
-/// An answer after the file that it is about was closed.
+/// An answer after the file that it is about was closed: a close that failed is told whatever was answered before it.
 pub fn with_closing<T: Drop>(
     answer: Result<T, WorldError>,
     closing: Result<(), CloseFailed>,
 ) -> Result<T, WorldError>
     ensures { result ≡ answer_of answer closing }
 {
-    match (answer, closing) {
-        (Ok(answer), Ok(())) => Ok(answer),
-        (Ok(_), Err(_)) => Err(WorldError::Failed),
-        (Err(error), _) => Err(error),
+    match closing {
+        Ok(()) => answer,
+        Err(CloseFailed) => {
+            drop(answer);
+            Err(WorldError::Failed)
+        }
     }
 }
 

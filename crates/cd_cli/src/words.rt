@@ -8,7 +8,7 @@ use std::alloc::Global;
 use thiserror::Error;
 
 /// What the words ask for. Each script is the word as it was given.
-#[derive(Debug, Drop)]
+#[derive(Drop)]
 pub enum Command {
     /// `run SCRIPT`
     Run { script: Literal },

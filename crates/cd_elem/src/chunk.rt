@@ -11,7 +11,7 @@ use std::alloc::Global;
 use std::marker::Model;
 
 /// The elements of a chunk, and of those skipped in front of them.
-#[derive(Debug, Drop)]
+#[derive(Drop)]
 enum Elements {
     Bytes(ByteList),
     Chars(CharList),
@@ -46,24 +46,12 @@ impl Elements {
         ensures sort { IfOk result (λ copy. sort_of copy ≡ sort_of self.now) }
         ensures numbers { IfOk result (λ copy. numbers_of copy ≡ take count (drop start (numbers_of self.now))) }
     {
-        Ok(match self {
-            Elements::Bytes(items) => Elements::Bytes(Items::from_slice(
-                alloc,
-                between(items.as_slice(), start, count),
-            )?),
-            Elements::Chars(items) => Elements::Chars(Items::from_slice(
-                alloc,
-                between(items.as_slice(), start, count),
-            )?),
-            Elements::Block(items) => Elements::Block(Items::from_slice(
-                alloc,
-                between(items.as_slice(), start, count),
-            )?),
-            Elements::Text(items) => Elements::Text(Items::from_slice(
-                alloc,
-                between(items.as_slice(), start, count),
-            )?),
-        })
+        match self {
+            Elements::Bytes(items) => Ok(Elements::Bytes(part(alloc, items, start, count)?)),
+            Elements::Chars(items) => Ok(Elements::Chars(part(alloc, items, start, count)?)),
+            Elements::Block(items) => Ok(Elements::Block(part(alloc, items, start, count)?)),
+            Elements::Text(items) => Ok(Elements::Text(part(alloc, items, start, count)?)),
+        }
     }
 }
 
@@ -86,6 +74,19 @@ fn between<T: Copy>(items: &[T], start: usize, count: usize) -> &[T]
     front
 }
 
+/// A copy of `count` members from the place `start` on.
+fn part<T: Copy>(
+    alloc: Global,
+    items: &Items<T>,
+    start: usize,
+    count: usize,
+) -> Result<Items<T>, NoMemory>
+    requires { start + count ≤ length items.now }
+    ensures { IfOk result (λ copy. copy ≡ take count (drop start items.now)) }
+{
+    Items::from_slice(alloc, between(items.as_slice(), start, count))
+}
+
 fn byte_at(items: &[u8], place: usize) -> Option<u32>
     ensures { result ≡ slice_get items.now place }
 {
@@ -106,7 +107,7 @@ fn char_at(items: &[char], place: usize) -> Option<u32>
 
 /// 1 to 65,536 elements of a cut stream, or one piece of at most 1,048,576 elements. Contracts see its sort and
 /// beside it the list of its elements' numbers: of a byte its value, of a character its scalar value.
-#[derive(Debug, Drop)]
+#[derive(Drop)]
 pub struct Chunk {
     elements: Elements,
     // so many of the elements are skipped

@@ -1,7 +1,7 @@
 // What is wrong with an input that is decoded.
 
 /// What a decoder refuses. `at` counts the elements of the decoder's input before the refused ones.
-#[derive(Clone, Copy, Debug, PartialEq, Eq)]
+#[derive(Clone, Copy, PartialEq, Eq)]
 pub enum Fault {
     /// Bytes that are no well-formed UTF-8 (the Unicode Standard, Table 3-7). `at` is the first byte of the sequence.
     BadText { at: u64 },

@@ -8,7 +8,7 @@ use std::marker::Model;
 
 /// A `Vec` that contracts see as the list of its members: two lists with the same members are equal, whatever room
 /// they have. It keeps the allocator that it was made with.
-#[derive(Debug, Drop)]
+#[derive(Drop)]
 pub struct Items<T> {
     items: Vec<T>,
 }

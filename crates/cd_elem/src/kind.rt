@@ -3,7 +3,7 @@
 /// The kind of a stream. `Bytes` and `Chars` are the cut kinds: streams of single elements that may be cut into
 /// chunks anywhere. The others are the piece kinds: streams of lists with at most so many elements each, which are
 /// never cut.
-#[derive(Clone, Copy, Debug, PartialEq, Eq)]
+#[derive(Clone, Copy, PartialEq, Eq)]
 pub enum Kind {
     Bytes,
     Chars,

@@ -48,6 +48,3 @@ pub type NumberList = Items<u32>;
 
 /// A list of texts.
 pub type LiteralList = Items<Literal>;
-
-#[cfg(test)]
-mod tests;

@@ -8,7 +8,7 @@ use std::marker::Model;
 
 /// A `Vec` that contracts see as the list of its members beside a number, its spare: so many pushes take no memory
 /// and are never refused.
-#[derive(Debug, Drop)]
+#[derive(Drop)]
 pub struct Roomy<T> {
     items: Vec<T>,
 }

@@ -9,7 +9,7 @@ use crate::word::Word;
 use std::marker::Model;
 
 /// What joins the members of a chain.
-#[derive(Clone, Copy, Debug, PartialEq, Eq)]
+#[derive(Clone, Copy, PartialEq, Eq)]
 pub enum Join {
     /// `|`: downstream's result.
     Plain,
@@ -26,7 +26,7 @@ pub enum Join {
 }
 
 /// A pipe. Parentheses leave no mark in it.
-#[derive(Debug, Drop)]
+#[derive(Drop)]
 pub enum Pipe {
     Word(Word),
     /// Two members or more, upstream first.
@@ -51,7 +51,7 @@ pub enum Pipe {
 pub type PipeList = Items<Pipe>;
 
 /// A statement.
-#[derive(Debug, Drop)]
+#[derive(Drop)]
 pub enum Stmt {
     Run(Pipe),
     /// Gives the name to a source, and runs nothing of it.
@@ -70,7 +70,7 @@ pub enum Stmt {
 pub type StmtList = Items<Stmt>;
 
 /// A script, which contracts see as the list of its statements.
-#[derive(Debug, Drop)]
+#[derive(Drop)]
 pub struct Script {
     statements: StmtList,
 }

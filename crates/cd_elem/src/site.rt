@@ -2,5 +2,5 @@
 
 /// A place of a script that opens, reads or writes, counted from 1 in the order of the script.
 /// Site 0 stands for the lines of results.
-#[derive(Clone, Copy, Debug, PartialEq, Eq)]
+#[derive(Clone, Copy, PartialEq, Eq)]
 pub struct Site(pub u32);

@@ -4,7 +4,7 @@ use crate::name::Name;
 use crate::script::Join;
 
 /// A word with nothing behind it.
-#[derive(Clone, Copy, Debug, PartialEq, Eq)]
+#[derive(Clone, Copy)]
 pub enum PlainWord {
     PassE,
     HeadE,
@@ -34,7 +34,7 @@ pub enum PlainWord {
 }
 
 /// A word with a number behind it.
-#[derive(Clone, Copy, Debug, PartialEq, Eq)]
+#[derive(Clone, Copy)]
 pub enum CountedWord {
     TakeE,
     RepeatE,
@@ -50,7 +50,7 @@ pub enum CountedWord {
 }
 
 /// A word with a class behind it.
-#[derive(Clone, Copy, Debug, PartialEq, Eq)]
+#[derive(Clone, Copy)]
 pub enum ClassedWord {
     TakeWhileE,
     FilterE,
@@ -60,7 +60,7 @@ pub enum ClassedWord {
 }
 
 /// A word with a test behind it.
-#[derive(Clone, Copy, Debug, PartialEq, Eq)]
+#[derive(Clone, Copy)]
 pub enum TestedWord {
     TakeWhile,
     Filter,
@@ -68,7 +68,7 @@ pub enum TestedWord {
 }
 
 /// A word with a literal behind it.
-#[derive(Clone, Copy, Debug, PartialEq, Eq)]
+#[derive(Clone, Copy)]
 pub enum LiteralWord {
     Intersperse,
     Bytes,
@@ -76,21 +76,21 @@ pub enum LiteralWord {
 }
 
 /// A word with the name of a file behind it.
-#[derive(Clone, Copy, Debug, PartialEq, Eq)]
+#[derive(Clone, Copy)]
 pub enum FileWord {
     SourceFile,
     SinkFile,
 }
 
 /// A word with a list of literals behind it.
-#[derive(Clone, Copy, Debug, PartialEq, Eq)]
+#[derive(Clone, Copy)]
 pub enum ListWord {
     Blocks,
     Texts,
 }
 
 /// A class with nothing behind it.
-#[derive(Clone, Copy, Debug, PartialEq, Eq)]
+#[derive(Clone, Copy)]
 pub enum PlainClass {
     Digit,
     Upper,
@@ -103,28 +103,28 @@ pub enum PlainClass {
 }
 
 /// A test of an end of a piece, with a literal behind it.
-#[derive(Clone, Copy, Debug, PartialEq, Eq)]
+#[derive(Clone, Copy)]
 pub enum EndTest {
     Begins,
     Ends,
 }
 
 /// A map of elements with a number behind it.
-#[derive(Clone, Copy, Debug, PartialEq, Eq)]
+#[derive(Clone, Copy)]
 pub enum NumberMap {
     Xor,
     Add,
 }
 
 /// A map that adds to an end of a piece, with a literal behind it.
-#[derive(Clone, Copy, Debug, PartialEq, Eq)]
+#[derive(Clone, Copy)]
 pub enum EndMap {
     Prefix,
     Suffix,
 }
 
 /// The first word of a statement with a name behind it.
-#[derive(Clone, Copy, Debug, PartialEq, Eq)]
+#[derive(Clone, Copy)]
 pub enum Opening {
     Let,
     Feed,
@@ -134,14 +134,14 @@ pub enum Opening {
 }
 
 /// A form with a number and a pipe in braces behind it.
-#[derive(Clone, Copy, Debug, PartialEq, Eq)]
+#[derive(Clone, Copy)]
 pub enum Section {
     Exactly,
     ExactlyE,
 }
 
 /// A form with two pipes in parentheses behind it.
-#[derive(Clone, Copy, Debug, PartialEq, Eq)]
+#[derive(Clone, Copy)]
 pub enum Zip {
     Source,
     Sink,
@@ -149,7 +149,7 @@ pub enum Zip {
 }
 
 /// A reserved word.
-#[derive(Clone, Copy, Debug, PartialEq, Eq)]
+#[derive(Clone, Copy)]
 pub enum Keyword {
     Run,
     Opening(Opening),
@@ -187,7 +187,7 @@ pub enum Keyword {
 }
 
 /// A sign.
-#[derive(Clone, Copy, Debug, PartialEq, Eq)]
+#[derive(Clone, Copy)]
 pub enum Sign {
     Operator(Join),
     OpenBrace,
@@ -202,7 +202,7 @@ pub enum Sign {
 }
 
 /// A token, without its place. A number past 2^64 - 1 is `Number(None)`.
-#[derive(Debug, Drop)]
+#[derive(Drop)]
 pub enum Token {
     Word(Keyword),
     Sign(Sign),
@@ -214,7 +214,7 @@ pub enum Token {
 }
 
 /// A token and the place of its first byte.
-#[derive(Debug, Drop)]
+#[derive(Drop)]
 pub struct Lexeme {
     pub token: Token,
     pub at: u32,

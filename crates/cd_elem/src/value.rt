@@ -4,7 +4,7 @@ use crate::items::Items;
 use crate::{ByteList, CharList};
 
 /// The result that a part of a pipe ends with.
-#[derive(Debug, Drop)]
+#[derive(Drop)]
 pub enum Value {
     Unit,
     /// A count or a sum, which stays at 2^64 - 1 where it would pass it.

@@ -3,7 +3,7 @@ use crate::LiteralList;
 use crate::literal::Literal;
 
 /// One word with its arguments, by what it works on.
-#[derive(Debug, Drop)]
+#[derive(Drop)]
 pub enum Word {
     Elem(ElemWord),
     Piece(PieceWord),
@@ -15,7 +15,7 @@ pub enum Word {
 }
 
 /// A word that reads elements of a cut stream. `SinkNull` reads pieces too.
-#[derive(Clone, Copy, Debug)]
+#[derive(Clone, Copy)]
 pub enum ElemWord {
     PassE,
     TakeE(u64),
@@ -40,7 +40,7 @@ pub enum ElemWord {
 }
 
 /// A word that reads pieces.
-#[derive(Debug, Drop)]
+#[derive(Drop)]
 pub enum PieceWord {
     Pass,
     Take(u64),
@@ -62,7 +62,7 @@ pub enum PieceWord {
 }
 
 /// A word between elements and pieces. Its number is the greatest length of a piece, 1 to 65,536.
-#[derive(Clone, Copy, Debug)]
+#[derive(Clone, Copy)]
 pub enum SplitWord {
     Lines(u64),
     /// Lines that end at this character.
@@ -74,7 +74,7 @@ pub enum SplitWord {
 }
 
 /// A word between bytes and characters.
-#[derive(Clone, Copy, Debug)]
+#[derive(Clone, Copy)]
 pub enum TextWord {
     Utf8,
     Utf8Lenient,
@@ -82,7 +82,7 @@ pub enum TextWord {
 }
 
 /// A word between bytes and their base16 or base64 (RFC 4648, sections 8 and 4).
-#[derive(Clone, Copy, Debug)]
+#[derive(Clone, Copy)]
 pub enum BaseWord {
     HexEncode,
     HexDecode,
@@ -91,7 +91,7 @@ pub enum BaseWord {
 }
 
 /// A word that reads no input.
-#[derive(Debug, Drop)]
+#[derive(Drop)]
 pub enum SourceWord {
     /// The bytes of the file with this name.
     SourceFile(Literal),
@@ -107,7 +107,7 @@ pub enum SourceWord {
 }
 
 /// A word that writes its input out.
-#[derive(Debug, Drop)]
+#[derive(Drop)]
 pub enum SinkWord {
     /// Into the file with this name.
     SinkFile(Literal),
@@ -115,7 +115,7 @@ pub enum SinkWord {
 }
 
 /// A map of elements.
-#[derive(Clone, Copy, Debug)]
+#[derive(Clone, Copy)]
 pub enum ByteMap {
     Xor(u8),
     /// The sum modulo 256.
@@ -125,7 +125,7 @@ pub enum ByteMap {
 }
 
 /// A map of pieces.
-#[derive(Debug, Drop)]
+#[derive(Drop)]
 pub enum PieceMap {
     Prefix(Literal),
     Suffix(Literal),
@@ -133,14 +133,14 @@ pub enum PieceMap {
 }
 
 /// A class of elements, or those outside it.
-#[derive(Clone, Copy, Debug)]
+#[derive(Clone, Copy)]
 pub struct Class {
     pub negated: bool,
     pub what: ClassName,
 }
 
 /// A class of elements by their numbers. Those with a name are ASCII's.
-#[derive(Clone, Copy, Debug)]
+#[derive(Clone, Copy)]
 pub enum ClassName {
     Digit,
     Upper,
@@ -157,14 +157,14 @@ pub enum ClassName {
 }
 
 /// A test of a piece, or its opposite.
-#[derive(Debug, Drop)]
+#[derive(Drop)]
 pub struct PieceTest {
     pub negated: bool,
     pub what: TestName,
 }
 
 /// What is asked of a piece.
-#[derive(Debug, Drop)]
+#[derive(Drop)]
 pub enum TestName {
     Empty,
     Begins(Literal),

@@ -12,6 +12,3 @@ mod stage;
 mod state;
 
 pub use stage::{ElemStage, elem_stage};
-
-#[cfg(test)]
-mod tests;

@@ -13,7 +13,7 @@ use cd_elem::{ByteMap, Chunk, Class, NoMemory, Value};
 use std::alloc::Global;
 
 /// What a word does next with the elements of its chunk.
-#[derive(Debug, Drop)]
+#[derive(Drop)]
 pub enum Plan {
     /// It reads them all, and needs more.
     Need,

@@ -21,7 +21,7 @@ use cd_step::{Input, Move, Stage, Stand, weight_of};
 use std::alloc::Global;
 
 /// An element word between two steps.
-#[derive(Debug, Drop)]
+#[derive(Drop)]
 pub struct ElemStage {
     stand: Stand,
     // whether it was told the end
@@ -132,6 +132,7 @@ impl ElemStage {
         let len = chunk.len();
         match plan {
             Plan::Need => {
+                drop(chunk);
                 self.stand = Stand::Wait;
                 Ok(Move::Need)
             }
@@ -173,6 +174,7 @@ impl ElemStage {
     {
         match self.state {
             State::SinkNull => {
+                drop(chunk);
                 self.stand = Stand::Wait;
                 Ok(Move::Need)
             }

@@ -8,14 +8,14 @@ use std::alloc::Global;
 use std::mem;
 
 /// One element.
-#[derive(Clone, Copy, Debug)]
+#[derive(Clone, Copy)]
 pub enum Single {
     Byte(u8),
     Char(char),
 }
 
 /// A word with what is left of its number, or what it carries beside a list.
-#[derive(Clone, Copy, Debug)]
+#[derive(Clone, Copy)]
 pub enum State {
     Pass,
     Take(u64),
@@ -38,7 +38,7 @@ pub enum State {
 }
 
 /// The elements that a word keeps in a list.
-#[derive(Debug, Drop)]
+#[derive(Drop)]
 pub enum Gathered {
     Bytes(ByteList),
     Chars(CharList),

@@ -60,7 +60,7 @@ fn is_zero(token: &Token) -> bool
 }
 
 /// What stands next in a text: a token and its size, or the place where none begins.
-#[derive(Debug, Drop)]
+#[derive(Drop)]
 enum Look {
     Next(Lexeme, usize),
     Stop(usize, bool),
@@ -91,7 +91,7 @@ fn next_in(alloc: Global, text: &[u8], at: usize, zero: bool) -> Result<Look, No
 }
 
 /// The tokens of a text, up to its end or to the first place where none begins.
-#[derive(Debug, Drop)]
+#[derive(Drop)]
 pub struct Lexed {
     pub lexemes: Items<Lexeme>,
     pub stop: u32,
@@ -110,7 +110,10 @@ pub fn lex(alloc: Global, text: &str) -> Result<Lexed, NoMemory>
     let mut zero = false;
     'tokens: loop {
         match next_in(alloc, text, at, zero) {
-            Err(NoMemory) => return Err(NoMemory),
+            Err(NoMemory) => {
+                drop(lexemes);
+                return Err(NoMemory);
+            }
             Ok(Look::Stop(place, whole)) => {
                 let stop = place as u32;
                 return Ok(Lexed {
@@ -124,7 +127,10 @@ pub fn lex(alloc: Global, text: &str) -> Result<Lexed, NoMemory>
                 zero = is_zero(&lexeme.token);
                 match lexemes.push(lexeme) {
                     Ok(()) => {}
-                    Err(_) => return Err(NoMemory),
+                    Err(lexeme) => {
+                        drop((lexeme, lexemes));
+                        return Err(NoMemory);
+                    }
                 }
             }
         }

@@ -10,6 +10,3 @@ mod words;
 
 pub use lexemes::{Lexed, lex};
 pub use spelling::push_spaced;
-
-#[cfg(test)]
-mod tests;

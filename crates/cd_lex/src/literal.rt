@@ -8,7 +8,7 @@ use cd_elem::{ByteList, Items, Literal, NoMemory, Token};
 use std::alloc::Global;
 
 /// Where in a literal the next byte stands: behind how many digits of a number, and its value so far.
-#[derive(Clone, Copy, Debug)]
+#[derive(Clone, Copy)]
 enum Reading {
     Plain,
     Escape,
@@ -17,7 +17,7 @@ enum Reading {
 }
 
 /// What a byte makes of it. Behind a byte or a character of the value the next one is plain.
-#[derive(Clone, Copy, Debug)]
+#[derive(Clone, Copy)]
 enum Read {
     Closes,
     Fails,
@@ -147,7 +147,10 @@ fn with_byte(bytes: ByteList, byte: u8) -> Result<ByteList, NoMemory>
     let mut bytes = bytes;
     match bytes.push(byte) {
         Ok(()) => Ok(bytes),
-        Err(_) => Err(NoMemory),
+        Err(_) => {
+            drop(bytes);
+            Err(NoMemory)
+        }
     }
 }
 
@@ -156,8 +159,13 @@ fn with_char(bytes: ByteList, scalar: char) -> Result<ByteList, NoMemory>
 {
     let mut room = [0; 4];
     let mut bytes = bytes;
-    bytes.extend_from_slice(scalar.encode_utf8(&mut room).as_bytes())?;
-    Ok(bytes)
+    match bytes.extend_from_slice(scalar.encode_utf8(&mut room).as_bytes()) {
+        Ok(()) => Ok(bytes),
+        Err(NoMemory) => {
+            drop(bytes);
+            Err(NoMemory)
+        }
+    }
 }
 
 /// The value of the literal whose opening quote stands before this text, and its bytes behind that quote.
@@ -170,7 +178,10 @@ fn quoted(alloc: Global, text: &[u8]) -> Result<Option<(ByteList, usize)>, NoMem
     for (place, byte) in text.iter().enumerate() {
         match read_next(reading, *byte) {
             Read::Closes => return Ok(Some((bytes, place + 1))),
-            Read::Fails => return Ok(None),
+            Read::Fails => {
+                drop(bytes);
+                return Ok(None);
+            }
             Read::Goes(next) => reading = next,
             Read::Byte(meant) => {
                 bytes = with_byte(bytes, meant)?;
@@ -182,6 +193,7 @@ fn quoted(alloc: Global, text: &[u8]) -> Result<Option<(ByteList, usize)>, NoMem
             }
         }
     }
+    drop(bytes);
     Ok(None)
 }
 

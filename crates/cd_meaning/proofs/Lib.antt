@@ -31,6 +31,7 @@ pub mod ReturnMoves
 pub mod Rising
 pub mod ScanMoves
 pub mod Scanned
+mod ScriptRows
 pub mod SequenceMoves
 pub mod SequenceRuns
 pub mod SourceRuns

@@ -1,5 +1,5 @@
--- What a script does at each of its sites, and what that says of two lists of effects and of what is seen.
-use Rattle.std.specs.Prelude.{◌≡◌, ℕ, zero, suc, ◌==◌, nat_le, if◌then◌else◌, List, [], ◌∷◌, ◌++◌, length, take, map}
+-- What a script does at each of its sites, and what that says of where effects go and of what is seen.
+use Rattle.std.specs.Prelude.{ℕ, zero, suc, ◌==◌, nat_le, if◌then◌else◌, List, [], ◌∷◌, length, take}
 use Rattle.cd_meaning.specs.Stream.{Effect, Open, Put, Close}
 use Rattle.cd_meaning.specs.Words.{AtEnd, TooLong, Told, Seen}
 
@@ -31,20 +31,6 @@ output_from s (p ∷ places) (suc (suc n)) = output_from s places (suc n)
 -- the output of a site of a script with these places; sites count from 1, and site 0 is where results are printed
 abbrev pub output_of : List Place → ℕ → ℕ
 output_of places s = output_from s places s
-
-abbrev pub by_output : List Place → Effect → Effect
-by_output places (Open s) = Open s
-by_output places (Put s b) = Put (output_of places s) b
-by_output places (Close s) = Close s
-
--- two lists of effects are the same, where what is put is compared by output
-abbrev pub Agree : List Place → List Effect → List Effect → Type 0
-Agree places es fs = map (by_output places) es ≡ map (by_output places) fs
-
--- the first list is a front of the second, in the same comparison
-pub record Begins (places : List Place) (es fs : List Effect) : Type 0 where
-  pub behind : List Effect
-  pub front : map (by_output places) fs ≡ map (by_output places) es ++ behind
 
 -- the bytes that an output gets
 abbrev pub sent_to : List Place → ℕ → List Effect → List ℕ

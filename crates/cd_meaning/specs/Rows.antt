@@ -16,6 +16,7 @@ pub mod Sites
 pub mod Splitters
 pub mod Statements
 pub mod TakeForm
+pub mod TextEdges
 pub mod Texts
 pub mod Trees
 pub mod ValueTexts

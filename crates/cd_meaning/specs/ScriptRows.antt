@@ -1,19 +1,23 @@
--- Rows of the grammar of scripts, by computation: tokens, reserved words and literals, and the limits. The forms and the canonical texts stand below.
+-- Rows of the grammar of scripts, by computation: tokens, reserved words and literals. The words, the forms, the limits and the canonical texts stand below; the rows of whole texts stand in `proofs`, since they rest on lemmas.
 pub mod CanonicalTexts
 pub mod Derivations
-use Rattle.std.specs.Prelude.{ℕ, ◌≡◌, refl, ◌^◌, ◌-◌, false, List, [], ◌∷◌, ◌++◌, Option, Some, None, codes}
+pub mod Lexemes
+pub mod Limits
+pub mod Words
+use Rattle.std.specs.Prelude.{ℕ, ◌≡◌, refl, ◌^◌, ◌-◌, List, [], ◌∷◌, map, Option, Some, None, codes}
+use lib.Utf8.{encode}
 use Rattle.cd_elem.specs.declared.script.Join.TheVariants as join
 use Rattle.cd_elem.specs.declared.token.PlainWord.TheVariants as plain
-use Rattle.cd_elem.specs.declared.token.CountedWord.TheVariants as counted
+use Rattle.cd_elem.specs.declared.token.PlainClass.TheVariants as class
 use Rattle.cd_elem.specs.declared.token.NumberMap.TheVariants as number_map
+use Rattle.cd_elem.specs.declared.token.Opening.TheVariants as opening
+use Rattle.cd_elem.specs.declared.token.Section.TheVariants as section
+use Rattle.cd_elem.specs.declared.token.Zip.TheVariants as zip
 use Rattle.cd_elem.specs.declared.token.Keyword.TheVariants as keyword
 use Rattle.cd_elem.specs.declared.token.Sign.TheVariants as sign
 use Rattle.cd_elem.specs.declared.token.Token.{Token}
 use Rattle.cd_elem.specs.declared.token.Token.TheVariants as token
-use Rattle.cd_elem.specs.declared.token.LimitKind.TheVariants.{Tokens, Depth, Literal, Number}
-use Rattle.cd_meaning.specs.Lexemes.{gap}
-use Rattle.cd_meaning.specs.Limits.{every_number, limit_of, limit_behind, limit_at}
-use Rattle.cd_meaning.specs.Literals.{inside}
+use Rattle.cd_meaning.specs.Literals.{inside, hex_value}
 use Rattle.cd_meaning.specs.Reserved.{reserved}
 use Rattle.cd_meaning.specs.Tokens.{whole_token}
 
@@ -39,14 +43,33 @@ asked_operator = refl
 equals_sign : whole_token (codes "=") ≡ Some (token.Sign sign.Equals)
 equals_sign = refl
 
-square_sign : whole_token (codes "[") ≡ Some (token.Sign sign.OpenSquare)
-square_sign = refl
+brace_signs : map whole_token (codes "{" ∷ codes "}" ∷ []) ≡ Some (token.Sign sign.OpenBrace) ∷ Some (token.Sign sign.CloseBrace) ∷ []
+brace_signs = refl
+
+paren_signs : map whole_token (codes "(" ∷ codes ")" ∷ []) ≡ Some (token.Sign sign.OpenParen) ∷ Some (token.Sign sign.CloseParen) ∷ []
+paren_signs = refl
+
+square_signs : map whole_token (codes "[" ∷ codes "]" ∷ []) ≡ Some (token.Sign sign.OpenSquare) ∷ Some (token.Sign sign.CloseSquare) ∷ []
+square_signs = refl
+
+comma_sign : whole_token (codes ",") ≡ Some (token.Sign sign.Comma)
+comma_sign = refl
+
+semicolon_sign : whole_token (codes ";") ≡ Some (token.Sign sign.Semicolon)
+semicolon_sign = refl
+
+colon_is_none : whole_token (codes ":") ≡ None
+colon_is_none = refl
 
 two_signs : whole_token (codes "||") ≡ None
 two_signs = refl
 
 no_sign : whole_token (codes "+") ≡ None
 no_sign = refl
+
+-- none of these is a token
+no_signs : map whole_token ([] ∷ codes "&" ∷ codes "<" ∷ codes "?" ∷ codes "-" ∷ codes "_" ∷ codes "." ∷ codes "!" ∷ codes "'" ∷ codes "\\" ∷ codes "#" ∷ codes " " ∷ codes "| " ∷ codes "|-" ∷ codes "|>" ∷ codes "=|" ∷ codes "==" ∷ codes "{}" ∷ codes ";;" ∷ codes "|+ " ∷ []) ≡ None ∷ None ∷ None ∷ None ∷ None ∷ None ∷ None ∷ None ∷ None ∷ None ∷ None ∷ None ∷ None ∷ None ∷ None ∷ None ∷ None ∷ None ∷ None ∷ None ∷ []
+no_signs = refl
 
 -- identifiers
 a_word : whole_token (codes "passE") ≡ Some (token.Word (keyword.Plain plain.PassE))
@@ -58,6 +81,24 @@ a_name = refl
 version_is_reserved : reserved (codes "version") ≡ Some keyword.Version
 version_is_reserved = refl
 
+scope_is_reserved : reserved (codes "scope") ≡ Some keyword.Scope
+scope_is_reserved = refl
+
+upper_and_lower_are_reserved : map reserved (codes "upper" ∷ codes "lower" ∷ []) ≡ Some (keyword.Class class.Upper) ∷ Some (keyword.Class class.Lower) ∷ []
+upper_and_lower_are_reserved = refl
+
+-- the words of statements
+statement_words : map reserved (codes "run" ∷ codes "let" ∷ codes "seal" ∷ codes "feed" ∷ codes "close" ∷ codes "hold" ∷ codes "mark" ∷ codes "release" ∷ []) ≡ Some keyword.Run ∷ Some (keyword.Opening opening.Let) ∷ Some keyword.Seal ∷ Some (keyword.Opening opening.Feed) ∷ Some (keyword.Opening opening.Close) ∷ Some (keyword.Opening opening.Hold) ∷ Some keyword.Mark ∷ Some (keyword.Opening opening.Release) ∷ []
+statement_words = refl
+
+-- the words of forms
+form_words : map reserved (codes "exactly" ∷ codes "exactlyE" ∷ codes "lineE" ∷ codes "tee" ∷ codes "zipSource" ∷ codes "zipSink" ∷ codes "zipConduit" ∷ codes "not" ∷ []) ≡ Some (keyword.Section section.Exactly) ∷ Some (keyword.Section section.ExactlyE) ∷ Some keyword.LineE ∷ Some keyword.Tee ∷ Some (keyword.Zip zip.Source) ∷ Some (keyword.Zip zip.Sink) ∷ Some (keyword.Zip zip.Conduit) ∷ Some keyword.Not ∷ []
+form_words = refl
+
+-- a front of a reserved word, or one with more behind it, is a name
+not_reserved : map reserved (codes "ru" ∷ codes "runs" ∷ codes "exactlye" ∷ codes "line" ∷ codes "zip" ∷ codes "source" ∷ codes "some" ∷ codes "number" ∷ []) ≡ None ∷ None ∷ None ∷ None ∷ None ∷ None ∷ None ∷ None ∷ []
+not_reserved = refl
+
 map_is_reserved : reserved (codes "xor") ≡ Some (keyword.NumberMap number_map.Xor)
 map_is_reserved = refl
 
@@ -67,12 +108,29 @@ case_counts = refl
 no_underscore : whole_token (codes "a_b") ≡ None
 no_underscore = refl
 
+-- the letters at both ends, and what stands just outside them
+letters : map whole_token (codes "@" ∷ codes "A" ∷ codes "Z" ∷ codes "`" ∷ codes "a" ∷ codes "z" ∷ []) ≡ None ∷ Some (token.Named (codes "A")) ∷ Some (token.Named (codes "Z")) ∷ None ∷ Some (token.Named (codes "a")) ∷ Some (token.Named (codes "z")) ∷ []
+letters = refl
+
+letters_and_digits : whole_token (codes "aZ09") ≡ Some (token.Named (codes "aZ09"))
+letters_and_digits = refl
+
+-- what stands just outside them behind a letter, and the two bytes of ä
+no_letters : map whole_token (codes "a@" ∷ codes "a[" ∷ codes "a`" ∷ codes "a{" ∷ codes "a/" ∷ codes "a:" ∷ (97 ∷ 195 ∷ 164 ∷ []) ∷ (195 ∷ 164 ∷ []) ∷ []) ≡ None ∷ None ∷ None ∷ None ∷ None ∷ None ∷ None ∷ None ∷ []
+no_letters = refl
+
 -- numbers
 zero_number : whole_token (codes "0") ≡ Some (token.Number (Some 0))
 zero_number = refl
 
 leading_zero : whole_token (codes "01") ≡ None
 leading_zero = refl
+
+numbers : map whole_token (codes "1" ∷ codes "9" ∷ codes "10" ∷ codes "1029384756" ∷ []) ≡ Some (token.Number (Some 1)) ∷ Some (token.Number (Some 9)) ∷ Some (token.Number (Some 10)) ∷ Some (token.Number (Some 1029384756)) ∷ []
+numbers = refl
+
+no_numbers : map whole_token (codes "00" ∷ codes "1a" ∷ codes "1/" ∷ codes "1:" ∷ codes "1 " ∷ codes "-1" ∷ codes "1.0" ∷ codes "0x1" ∷ []) ≡ None ∷ None ∷ None ∷ None ∷ None ∷ None ∷ None ∷ None ∷ []
+no_numbers = refl
 
 greatest_number : whole_token (codes "18446744073709551615") ≡ Some (token.Number (Some (2 ^ 64 - 1)))
 greatest_number = refl
@@ -107,11 +165,11 @@ nul_inside = refl
 
 -- U+20AC in UTF-8
 scalar_escape : inside (codes "\\u{20aC}\"") ≡ Some (226 ∷ 130 ∷ 172 ∷ [])
-unfolding lib.Utf8.encode
+unfolding encode
 scalar_escape = refl
 
 six_digits : inside (codes "\\u{000041}\"") ≡ Some (65 ∷ [])
-unfolding lib.Utf8.encode
+unfolding encode
 six_digits = refl
 
 seven_digits : inside (codes "\\u{0000041}\"") ≡ None
@@ -129,61 +187,30 @@ past_unicode = refl
 whole_literal : whole_token (codes "\"a b\"") ≡ Some (token.Text (codes "a b"))
 whole_literal = refl
 
--- blanks and comments
-blanks : gap false (codes " \t\r\n x") ≡ 5
-blanks = refl
+-- a digit of either case: `\u{f}`, `\u{F}`
+one_digit : map inside (codes "\\u{f}\"" ∷ codes "\\u{F}\"" ∷ []) ≡ Some (15 ∷ []) ∷ Some (15 ∷ []) ∷ []
+unfolding encode
+one_digit = refl
 
-a_comment : gap false (codes "# x\n y") ≡ 5
-a_comment = refl
+-- each sort of digit at both ends, and the bytes just outside it
+digits_of_escapes : map hex_value (codes "/09:@AFG`afg") ≡ None ∷ Some 0 ∷ Some 9 ∷ None ∷ None ∷ Some 10 ∷ Some 15 ∷ None ∷ None ∷ Some 10 ∷ Some 15 ∷ None ∷ []
+digits_of_escapes = refl
 
-carriage_return_in_a_comment : gap false (codes "# x\r y") ≡ 6
-carriage_return_in_a_comment = refl
+-- the characters at both ends of what Unicode has, and of the surrogates
+around_surrogates : map inside (codes "\\u{d7ff}\"" ∷ codes "\\u{dfff}\"" ∷ codes "\\u{e000}\"" ∷ []) ≡ Some (237 ∷ 159 ∷ 191 ∷ []) ∷ None ∷ Some (238 ∷ 128 ∷ 128 ∷ []) ∷ []
+unfolding encode
+around_surrogates = refl
 
-comment_at_the_end : gap false (codes "#x") ≡ 2
-comment_at_the_end = refl
+first_and_last_character : map inside (codes "\\u{0}\"" ∷ codes "\\u{10ffff}\"" ∷ codes "\\u{ffffff}\"" ∷ []) ≡ Some (0 ∷ []) ∷ Some (244 ∷ 143 ∷ 191 ∷ 191 ∷ []) ∷ None ∷ []
+unfolding encode
+first_and_last_character = refl
 
--- limits
-abbrev paren : Token
-paren = token.Sign sign.OpenParen
+broken_escapes : map inside (codes "\\u41\"" ∷ codes "\\u{41\"" ∷ codes "\\u{4g}\"" ∷ codes "\\U{41}\"" ∷ codes "\\x41\"" ∷ codes "\\'\"" ∷ codes "\\0\"" ∷ codes "\\\"" ∷ codes "\\" ∷ codes "\\u" ∷ codes "\\u{" ∷ []) ≡ None ∷ None ∷ None ∷ None ∷ None ∷ None ∷ None ∷ None ∷ None ∷ None ∷ None ∷ []
+broken_escapes = refl
 
-abbrev eight : List Token
-eight = paren ∷ paren ∷ paren ∷ paren ∷ paren ∷ paren ∷ paren ∷ paren ∷ []
+behind_an_escape : inside (codes "a\\n\\u{41}b\"") ≡ Some (codes "a\nAb")
+unfolding encode
+behind_an_escape = refl
 
-token_8192 : limit_of 8191 0 every_number paren ≡ None
-token_8192 = refl
-
-token_8193 : limit_of 8192 0 every_number paren ≡ Some Tokens
-token_8193 = refl
-
-bracket_32 : limit_behind (eight ++ (eight ++ (eight ++ (paren ∷ paren ∷ paren ∷ paren ∷ paren ∷ paren ∷ paren ∷ [])))) paren ≡ None
-bracket_32 = refl
-
-bracket_33 : limit_behind (eight ++ (eight ++ (eight ++ eight))) paren ≡ Some Depth
-bracket_33 = refl
-
-closing_is_no_depth : limit_behind (eight ++ (eight ++ (eight ++ eight))) (token.Sign sign.CloseParen) ≡ None
-closing_is_no_depth = refl
-
-tokens_before_depth : limit_of 8192 32 every_number paren ≡ Some Tokens
-tokens_before_depth = refl
-
-abbrev counts : ℕ → Token
-counts n = token.Number (Some n)
-
-repeated_4096 : limit_at (token.Word (keyword.Counted counted.RepeatE) ∷ counts 4096 ∷ []) 1 ≡ None
-repeated_4096 = refl
-
-repeated_4097 : limit_at (token.Word (keyword.Counted counted.RepeatE) ∷ counts 4097 ∷ []) 1 ≡ Some Number
-repeated_4097 = refl
-
-pieces_of_0 : limit_at (token.Word (keyword.Counted counted.Lines) ∷ counts 0 ∷ []) 1 ≡ Some Number
-pieces_of_0 = refl
-
-split_of_65537 : limit_at (token.Word keyword.Split ∷ token.Text (44 ∷ []) ∷ counts 65537 ∷ []) 2 ≡ Some Number
-split_of_65537 = refl
-
-byte_of_256 : limit_at (token.Word keyword.MapE ∷ token.Word (keyword.NumberMap number_map.Add) ∷ counts 256 ∷ []) 2 ≡ Some Number
-byte_of_256 = refl
-
-past_every_number : limit_at (token.Word keyword.Range ∷ token.Number None ∷ []) 1 ≡ Some Number
-past_every_number = refl
+literal_tokens : map whole_token (codes "\"\"" ∷ codes "\"" ∷ codes "\"a" ∷ codes "\"a\"b" ∷ codes "\"a\" " ∷ []) ≡ Some (token.Text []) ∷ None ∷ None ∷ None ∷ None ∷ []
+literal_tokens = refl

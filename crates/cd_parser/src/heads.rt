@@ -8,10 +8,17 @@ use crate::words::{
     map_by_text, number_of, only_char, plain_class, plain_word, test_of_end, tested_word,
 };
 use cd_elem::{
-    ByteMap, Class, ClassName, ClassedWord, ElemWord, FileWord, Items, Keyword, Literal, NoMemory,
-    PieceMap, PieceTest, PieceWord, Sign, SourceWord, SplitWord, TestName, TestedWord, Token, Word,
+    ByteMap, Class, ClassName, ClassedWord, ElemWord, FileWord, Items, Keyword, ListWord, Literal,
+    LiteralList, NoMemory, PieceMap, PieceTest, PieceWord, Sign, SourceWord, SplitWord, TestName,
+    TestedWord, Token, Word,
 };
 use std::alloc::Global;
+
+/// Lets go of a value on the way to the answer for want of memory.
+pub fn let_go<T: Drop>(value: T) -> NoMemory {
+    drop(value);
+    NoMemory
+}
 
 /// The list with one more member.
 pub fn with_last<T: Drop>(items: Items<T>, last: T) -> Result<Items<T>, NoMemory>
@@ -20,7 +27,7 @@ pub fn with_last<T: Drop>(items: Items<T>, last: T) -> Result<Items<T>, NoMemory
     let mut items = items;
     match items.push(last) {
         Ok(()) => Ok(items),
-        Err(_) => Err(NoMemory),
+        Err(last) => Err(let_go((items, last))),
     }
 }
 
@@ -108,7 +115,10 @@ fn numbered(head: Head, number: Option<u64>) -> Option<Turn>
             Some(Turn::Ends(Word::Source(word)))
         }
         Head::Section(section) => Some(Turn::Goes(Head::Block(Block::Counts(section, number)))),
-        _ => None,
+        head => {
+            drop(head);
+            None
+        }
     }
 }
 
@@ -134,6 +144,7 @@ fn of_file(word: FileWord, name: Literal) -> Option<Turn>
     ensures { result ≡ spec.of_file word name }
 {
     if name.as_str().is_empty() {
+        drop(name);
         None
     } else {
         Some(Turn::Ends(file_word(word, name)))
@@ -144,18 +155,32 @@ fn marked(name: Literal) -> Option<Turn>
     ensures { result ≡ spec.marked name }
 {
     if name.as_str().is_empty() {
+        drop(name);
         None
     } else {
         Some(Turn::Goes(Head::Block(Block::Mark(name))))
     }
 }
 
+fn listed(word: ListWord, texts: LiteralList, text: Literal) -> Result<Option<Turn>, NoMemory>
+    ensures { IfOk result (λ turn. turn ≡ Some (Turn.Goes (Head.ListEnded word (texts ++ text ∷ [])))) }
+{
+    let texts = with_last(texts, text)?;
+    Ok(Some(Turn::Goes(Head::ListEnded(word, texts))))
+}
+
 fn texted(alloc: Global, head: Head, text: &str) -> Result<Option<Turn>, NoMemory>
     ensures { IfOk result (λ turn. turn ≡ spec.texted head text.now) }
 {
-    let literal = Literal::new(alloc, text)?;
+    let literal = match Literal::new(alloc, text) {
+        Ok(literal) => literal,
+        Err(NoMemory) => return Err(let_go(head)),
+    };
     match head {
-        Head::Is(word, negated) => Ok(is_scalar(word, negated, only_char(text))),
+        Head::Is(word, negated) => {
+            drop(literal);
+            Ok(is_scalar(word, negated, only_char(text)))
+        }
         Head::AtEnd(word, negated, test) => {
             Ok(Some(test_of(word, negated, test_of_end(test, literal))))
         }
@@ -165,21 +190,21 @@ fn texted(alloc: Global, head: Head, text: &str) -> Result<Option<Turn>, NoMemor
         }
         Head::Literal(word) => Ok(Some(Turn::Ends(literal_word(word, literal)))),
         Head::File(word) => Ok(of_file(word, literal)),
-        Head::Split => Ok(split_at(only_char(text))),
-        Head::ListOpen(word) => {
-            let texts = with_last(Items::new(alloc), literal)?;
-            Ok(Some(Turn::Goes(Head::ListEnded(word, texts))))
+        Head::Split => {
+            drop(literal);
+            Ok(split_at(only_char(text)))
         }
-        Head::ListGoes(word, texts) => {
-            let texts = with_last(texts, literal)?;
-            Ok(Some(Turn::Goes(Head::ListEnded(word, texts))))
-        }
+        Head::ListOpen(word) => listed(word, Items::new(alloc), literal),
+        Head::ListGoes(word, texts) => listed(word, texts, literal),
         Head::Replicated(times) => {
             let word = SourceWord::Replicate(number_of(times), literal);
             Ok(Some(Turn::Ends(Word::Source(word))))
         }
         Head::Mark => Ok(marked(literal)),
-        _ => Ok(None),
+        head => {
+            drop((head, literal));
+            Ok(None)
+        }
     }
 }
 
@@ -253,7 +278,10 @@ fn worded(head: Head, next: Keyword) -> Option<Turn>
         Head::TestedNot(word) => test_begun(word, true, next),
         Head::MapE => element_mapped(next),
         Head::Map => piece_mapped(next),
-        _ => None,
+        head => {
+            drop(head);
+            None
+        }
     }
 }
 
@@ -274,7 +302,10 @@ fn signed(alloc: Global, head: Head, sign: Sign) -> Option<Turn>
         (Head::Block(block), Sign::OpenBrace) => Some(Turn::Opens(Frame::Block(block))),
         (Head::Tee, Sign::OpenParen) => Some(Turn::Opens(Frame::Tee)),
         (Head::Zip(zip), Sign::OpenParen) => Some(Turn::Opens(Frame::ZipFirst(zip))),
-        _ => None,
+        (head, _) => {
+            drop(head);
+            None
+        }
     }
 }
 
@@ -287,6 +318,9 @@ pub fn further(alloc: Global, head: Head, token: &Token) -> Result<Option<Turn>,
         Token::Sign(sign) => Ok(signed(alloc, head, *sign)),
         Token::Number(number) => Ok(numbered(head, *number)),
         Token::Text(text) => texted(alloc, head, text.as_str()),
-        Token::Named(_) => Ok(None),
+        Token::Named(_) => {
+            drop(head);
+            Ok(None)
+        }
     }
 }

@@ -39,6 +39,7 @@ pub fn joined(
                 let parts = with_last(parts, part)?;
                 Ok(Some(Chain::Joined(first, parts)))
             } else {
+                drop((parts, part));
                 Ok(None)
             }
         }

@@ -4,13 +4,15 @@
 //! constant number of moves.
 #![tactic(auto)]
 
+mod brackets;
 mod heads;
 mod joining;
 mod machine;
 mod stack;
 mod state;
+mod statements;
 mod words;
 
-pub use machine::step;
 pub use stack::Stack;
 pub use state::{Block, Chain, Exit, Frame, Head, Inside, Level, Need, Owner, Place, State, Turn};
+pub use statements::step;

@@ -5,7 +5,7 @@ use std::alloc::Global;
 use std::marker::Model;
 
 /// A stack that contracts see as the list of its members, the top first.
-#[derive(Debug, Drop)]
+#[derive(Drop)]
 pub struct Stack<T> {
     items: Vec<T>,
 }

@@ -7,7 +7,7 @@ use cd_elem::{
 };
 
 /// What a statement does with its pipe.
-#[derive(Debug, Drop)]
+#[derive(Drop)]
 pub enum Owner {
     Run,
     Seal(Name),
@@ -16,14 +16,14 @@ pub enum Owner {
 }
 
 /// The members of a pipe so far, each with the operator behind it.
-#[derive(Debug, Drop)]
+#[derive(Drop)]
 pub enum Chain {
     Alone,
     Joined(Join, PipeList),
 }
 
 /// What stands before a pipe in braces.
-#[derive(Debug, Drop)]
+#[derive(Drop)]
 pub enum Block {
     Counts(Section, Option<u64>),
     LineE,
@@ -31,7 +31,7 @@ pub enum Block {
 }
 
 /// An open bracket, with the pipes that ended in it.
-#[derive(Debug, Drop)]
+#[derive(Drop)]
 pub enum Frame {
     Parens,
     Braces(PipeList),
@@ -42,14 +42,14 @@ pub enum Frame {
 }
 
 /// An open bracket, and the pipe that it stands in.
-#[derive(Debug, Drop)]
+#[derive(Drop)]
 pub struct Level {
     pub frame: Frame,
     pub outer: Chain,
 }
 
 /// The front of a word or of a form. A `bool` says whether a `not` stands in it.
-#[derive(Debug, Drop)]
+#[derive(Drop)]
 pub enum Head {
     Counted(CountedWord),
     Classed(ClassedWord),
@@ -84,7 +84,7 @@ pub enum Head {
 }
 
 /// What the next token has to go on with.
-#[derive(Debug, Drop)]
+#[derive(Drop)]
 pub enum Need {
     /// A part.
     Part,
@@ -99,7 +99,7 @@ pub enum Need {
 }
 
 /// Where in a pipe the parser stands.
-#[derive(Debug, Drop)]
+#[derive(Drop)]
 pub struct Inside {
     pub owner: Owner,
     pub levels: Stack<Level>,
@@ -108,7 +108,7 @@ pub struct Inside {
 }
 
 /// Where in a statement the parser stands.
-#[derive(Debug, Drop)]
+#[derive(Drop)]
 pub enum Place {
     Between,
     Opened(Opening),
@@ -125,14 +125,14 @@ pub enum Place {
 }
 
 /// The statements that have ended, and the place in the next one.
-#[derive(Debug, Drop)]
+#[derive(Drop)]
 pub struct State {
     pub statements: StmtList,
     pub place: Place,
 }
 
 /// What a token makes of the front of a word or of a form.
-#[derive(Debug, Drop)]
+#[derive(Drop)]
 pub enum Turn {
     Goes(Head),
     Ends(Word),
@@ -140,7 +140,7 @@ pub enum Turn {
 }
 
 /// What a sign makes of the innermost bracket, where a pipe has ended in it.
-#[derive(Debug, Drop)]
+#[derive(Drop)]
 pub enum Exit {
     Stays(Frame),
     Closes(Pipe),

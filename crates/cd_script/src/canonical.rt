@@ -184,6 +184,34 @@ fn put_file(alloc: Global, out: &mut Items<Token>, file: &Literal) -> Result<(),
     put_sign(out, Sign::Semicolon)
 }
 
+/// Adds a statement that gives a name to a source.
+fn put_seal(alloc: Global, out: &mut Items<Token>, name: &Name, pipe: &Pipe) -> Result<(), NoMemory>
+    ensures tokens { OnOk result (out.new ≡ out.old ++ spec.statement_tokens (Stmt.Seal name.now pipe.now)) }
+    ensures range { OnOk result (ranges.is_in_range pipe.now ≡ true) }
+{
+    put_opening(alloc, out, Opening::Let, name)?;
+    put_sign(out, Sign::Equals)?;
+    put_keyword(out, Keyword::Seal)?;
+    put_until(alloc, out, pipe, Sign::Semicolon)
+}
+
+/// Adds a statement that runs a seal into a pipe, by its first word.
+fn put_feeding(
+    alloc: Global,
+    out: &mut Items<Token>,
+    opening: Opening,
+    name: &Name,
+    pipe: &Pipe,
+) -> Result<(), NoMemory>
+    ensures tokens { OnOk result (out.new ≡ out.old ++ Token.Word (Keyword.Opening opening) ∷ Token.Named name.now
+        ∷ operator Join.Plain ∷ (spec.piece pipe.now).tokens ++ Token.Sign Sign.Semicolon ∷ []) }
+    ensures range { OnOk result (ranges.is_in_range pipe.now ≡ true) }
+{
+    put_opening(alloc, out, opening, name)?;
+    put_sign(out, Sign::Operator(Join::Plain))?;
+    put_until(alloc, out, pipe, Sign::Semicolon)
+}
+
 /// Adds the tokens of a statement.
 fn put_statement(alloc: Global, out: &mut Items<Token>, statement: &Stmt) -> Result<(), NoMemory>
     ensures tokens { OnOk result (out.new ≡ out.old ++ spec.statement_tokens statement.now) }
@@ -194,22 +222,9 @@ fn put_statement(alloc: Global, out: &mut Items<Token>, statement: &Stmt) -> Res
             put_keyword(out, Keyword::Run)?;
             put_until(alloc, out, pipe, Sign::Semicolon)
         }
-        Stmt::Seal(name, pipe) => {
-            put_opening(alloc, out, Opening::Let, name)?;
-            put_sign(out, Sign::Equals)?;
-            put_keyword(out, Keyword::Seal)?;
-            put_until(alloc, out, pipe, Sign::Semicolon)
-        }
-        Stmt::Feed(name, pipe) => {
-            put_opening(alloc, out, Opening::Feed, name)?;
-            put_sign(out, Sign::Operator(Join::Plain))?;
-            put_until(alloc, out, pipe, Sign::Semicolon)
-        }
-        Stmt::CloseSeal(name, pipe) => {
-            put_opening(alloc, out, Opening::Close, name)?;
-            put_sign(out, Sign::Operator(Join::Plain))?;
-            put_until(alloc, out, pipe, Sign::Semicolon)
-        }
+        Stmt::Seal(name, pipe) => put_seal(alloc, out, name, pipe),
+        Stmt::Feed(name, pipe) => put_feeding(alloc, out, Opening::Feed, name, pipe),
+        Stmt::CloseSeal(name, pipe) => put_feeding(alloc, out, Opening::Close, name, pipe),
         Stmt::Hold(name, file) => {
             put_opening(alloc, out, Opening::Hold, name)?;
             put_file(alloc, out, file)

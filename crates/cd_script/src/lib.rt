@@ -13,6 +13,3 @@ pub use cd_elem::LimitKind;
 pub use printing::print;
 pub use refusal::ScriptRefusal;
 pub use text::parse;
-
-#[cfg(test)]
-mod tests;

@@ -6,7 +6,7 @@ ghost use Rattle.cd_script.specs.Reading.{bounds_of};
 use cd_elem::{CountedWord, Keyword, LimitKind, Sign, Token};
 
 /// The numbers that may stand in a place, both ends included.
-#[derive(Clone, Copy, Debug)]
+#[derive(Clone, Copy)]
 pub struct Bounds {
     pub least: u64,
     pub most: u64,

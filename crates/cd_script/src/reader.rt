@@ -15,7 +15,7 @@ use cd_parser::{Place, State, step};
 use std::alloc::Global;
 
 /// The parser behind some tokens.
-#[derive(Debug, Drop)]
+#[derive(Drop)]
 struct Reader {
     state: State,
     opened: usize,
@@ -44,7 +44,10 @@ fn read(
         Err(NoMemory) => Err(ScriptRefusal::NoMemory),
         Ok(None) => Err(ScriptRefusal::Syntax { at }),
         Ok(Some(state)) => match limit_of(count, opened, bounds, &lexeme.token) {
-            Some(which) => Err(ScriptRefusal::Limit { which, at }),
+            Some(which) => {
+                drop(state);
+                Err(ScriptRefusal::Limit { which, at })
+            }
             None => Ok(Reader {
                 state,
                 opened: brackets_with(opened, &lexeme.token),
@@ -84,8 +87,10 @@ fn ending(reader: Reader, whole: bool, end: u32) -> Result<Script, ScriptRefusal
     let Reader { state, .. } = reader;
     let State { statements, place } = state;
     if whole && is_between(&place) {
+        drop(place);
         Ok(Script::new(statements))
     } else {
+        drop((statements, place));
         Err(ScriptRefusal::Syntax { at: end })
     }
 }

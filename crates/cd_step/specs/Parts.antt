@@ -1,14 +1,14 @@
 -- What is seen of a part, and what each input and each move say of it.
-use Rattle.std.specs.Prelude.{◌≡◌, ℕ, ◌==◌, ◌<◌, ◌≤◌, ◌+◌, Bool, true, false, ◌||◌, ◌&&◌, List, [], ◌∷◌, ◌++◌, length, map, Option, Some, None}
+use Rattle.std.specs.Prelude.{◌≡◌, ℕ, ◌==◌, ◌<◌, ◌≤◌, ◌+◌, Bool, true, false, List, [], ◌∷◌, ◌++◌, length, map, Option, Some, None}
 use Rattle.cd_elem.specs.declared.kind.Kind.{Kind}
 use Rattle.cd_elem.specs.declared.kind.Kind.TheVariants.{Bytes, Chars, Blocks, Texts}
 use Rattle.cd_elem.specs.declared.value.Value.{Value as Result}
 use Rattle.cd_elem.specs.declared.fault.Fault.{Fault}
-use Rattle.cd_meaning.specs.Stream.{Sort, Item, Elem, Piece, Stop, Decode, End, Ended, Act, Out, Do, Put}
+use Rattle.cd_meaning.specs.Stream.{Sort, Item, Elem, Piece, Stop, Decode, End, Ended, Act, Out}
 use Rattle.cd_meaning.specs.Run.{Component, restamp}
 use Rattle.cd_meaning.specs.Rest.{Rest, Grade, Moves, Asks, Finishes, Stuck}
 use Rattle.cd_meaning.specs.Laws.{Rising, less_by}
-use Rattle.cd_meaning.specs.Words.{Told, Seen, AtEnd, MayGoOn}
+use Rattle.cd_meaning.specs.Words.{Told, Seen, MayGoOn}
 use Rattle.cd_meaning.specs.Values.{value_meaning}
 use Rattle.cd_step.specs.declared.protocol.Input.{Input}
 use Rattle.cd_step.specs.declared.protocol.Input.TheVariants.{Start, Chunk as Given, End as TheEnd, Next}
@@ -131,12 +131,6 @@ pick false w t = t
 abbrev pub known : ℕ → Told → Seen → Seen
 known s w z t = pick (t == s) w (z t)
 
-abbrev pub before : List ℕ → Told → Told
-before numbers t = record { bytes = numbers ++ t.bytes; mark = t.mark }
-
-abbrev pub no_more : Told
-no_more = record { bytes = []; mark = AtEnd }
-
 -- nothing further is known of any site
 abbrev pub nothing_known : Seen
 nothing_known t = record { bytes = []; mark = MayGoOn }
@@ -226,51 +220,10 @@ fed TheEnd p = record {
 }
 fed Next p = p
 
--- the part where w is to come at site s
-abbrev pub told : ℕ → (Seen → Told) → Part → Part
-told s w p = record {
-  at = p.at;
-  grade = p.grade;
-  sites = p.sites;
-  gives = p.gives;
-  takes = p.takes;
-  room = p.room;
-  held = p.held;
-  tickets = p.tickets;
-  unread = p.unread;
-  floor = p.floor;
-  run = λ z. p.run (known s (w z) z);
-}
-
-abbrev pub is_ticket : ℕ → ℕ → ℕ → ℕ → Bool
-is_ticket t n s d = (s == t) && (d == n)
-
-abbrev pub with_ticket : ℕ → ℕ → (ℕ → ℕ → Bool) → ℕ → ℕ → Bool
-with_ticket t n h s d = is_ticket t n s d || h s d
-
--- the part with this ticket too
-abbrev pub got : ℕ → ℕ → Part → Part
-got t n p = record {
-  at = p.at;
-  grade = p.grade;
-  sites = p.sites;
-  gives = p.gives;
-  takes = p.takes;
-  room = p.room;
-  held = p.held;
-  tickets = with_ticket t n p.tickets;
-  unread = p.unread;
-  floor = p.floor;
-  run = p.run;
-}
-
 -- ---- what a move says
 
 abbrev pub outs_of : Chunk → List Act
 outs_of c = map Out (items c)
-
-abbrev pub puts_of : ℕ → List ℕ → List Act
-puts_of s numbers = map Do (map (Put s) numbers)
 
 -- with these acts p goes on as q
 abbrev pub Goes_on : List Act → Part → Part → Type 0
@@ -338,12 +291,6 @@ pub record IsSound (p : Part) : Type 0 where
   pub own : (s d : ℕ) → p.tickets s d ≡ true → p.sites s ≡ true
 
 -- ---- wholes of two parts
-
-abbrev pub both_sites : (ℕ → Bool) → (ℕ → Bool) → ℕ → Bool
-both_sites a b s = a s || b s
-
-abbrev pub both_tickets : (ℕ → ℕ → Bool) → (ℕ → ℕ → Bool) → ℕ → ℕ → Bool
-both_tickets a b s d = a s d || b s d
 
 -- no site stands in both
 abbrev pub AreApart : (ℕ → Bool) → (ℕ → Bool) → Type 0

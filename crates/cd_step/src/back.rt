@@ -17,7 +17,7 @@ pub fn weight_of(chunk: &Chunk) -> u64
 }
 
 /// A place for at most one chunk that was given back. Contracts see it as that chunk, or None.
-#[derive(Debug, Drop)]
+#[derive(Drop)]
 pub struct Back {
     chunk: Option<Chunk>,
 }

@@ -9,21 +9,21 @@ use crate::protocol::{Input, Move};
 use cd_elem::{Chunk, Value};
 
 /// One of the two parts of a whole.
-#[derive(Clone, Copy, Debug, PartialEq, Eq)]
+#[derive(Clone, Copy, PartialEq, Eq)]
 pub enum Side {
     Upper,
     Lower,
 }
 
 /// Which part steps next, with what.
-#[derive(Debug, Drop)]
+#[derive(Drop)]
 pub enum Turn {
     Up(Input),
     Down(Input),
 }
 
 /// What the value of a whole is made of. All but the first take memory, and controllers take none.
-#[derive(Debug, Drop)]
+#[derive(Drop)]
 pub enum Made {
     One(Value),
     Both(Value, Value),
@@ -34,7 +34,7 @@ pub enum Made {
 }
 
 /// Where that stands which the whole gives back.
-#[derive(Debug, Drop)]
+#[derive(Drop)]
 pub enum Found {
     Own(Option<Chunk>),
     AtUpper,
@@ -42,7 +42,7 @@ pub enum Found {
 }
 
 /// What follows a part's move.
-#[derive(Debug, Drop)]
+#[derive(Drop)]
 pub enum Flow {
     Again(Turn),
     /// Any move but `Done`.

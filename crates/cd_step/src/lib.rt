@@ -10,6 +10,3 @@ pub use back::{Back, weight_of};
 pub use control::{Control, Flow, Found, Made, Side, Turn};
 pub use protocol::{Input, Move, Stand};
 pub use stage::Stage;
-
-#[cfg(test)]
-mod tests;

@@ -2,7 +2,7 @@
 use cd_elem::{Chunk, Fault, Value};
 
 /// What a part is given.
-#[derive(Debug, Drop)]
+#[derive(Drop)]
 pub enum Input {
     /// The first input of all.
     Start,
@@ -15,7 +15,7 @@ pub enum Input {
 }
 
 /// What a part answers.
-#[derive(Debug, Drop)]
+#[derive(Drop)]
 pub enum Move {
     /// Values that it gives.
     Emit(Chunk),
@@ -28,7 +28,7 @@ pub enum Move {
 }
 
 /// Where a part stands between two steps, while no site of it is waited for.
-#[derive(Clone, Copy, Debug, PartialEq, Eq)]
+#[derive(Clone, Copy, PartialEq, Eq)]
 pub enum Stand {
     Fresh,
     Wait,

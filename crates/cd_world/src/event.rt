@@ -2,7 +2,7 @@
 use cd_elem::{ByteList, Literal, Roomy};
 
 /// The number of an open file. 0, 1 and 2 are standard input, output and error.
-#[derive(Clone, Copy, Debug, PartialEq, Eq)]
+#[derive(Clone, Copy, PartialEq, Eq)]
 pub struct Descriptor(pub u64);
 
 impl Descriptor {
@@ -14,7 +14,7 @@ impl Descriptor {
 }
 
 /// What an open file is for. The file of a mark is removed when it is closed.
-#[derive(Clone, Copy, Debug, PartialEq, Eq)]
+#[derive(Clone, Copy, PartialEq, Eq)]
 pub enum Use {
     Reading,
     Writing,
@@ -22,7 +22,7 @@ pub enum Use {
 }
 
 /// One call on the outside with its answer. A call that was refused for want of memory has no event.
-#[derive(Debug, Drop)]
+#[derive(Drop)]
 pub enum Event {
     OpenedRead(Literal, Descriptor),
     Created(Literal, Descriptor),

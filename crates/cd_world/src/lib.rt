@@ -14,6 +14,3 @@ pub use plan::{Fail, FailList};
 pub use store::{MemoryFile, MemoryFiles};
 pub use table::{OpenFile, OpenTable};
 pub use world::{CloseFailed, World, WorldError};
-
-#[cfg(test)]
-mod tests;

@@ -1,6 +1,6 @@
 // An outside in memory.
-ghost use Rattle.std.specs.Prelude.{◌≡◌, ◌<◌, ◌≤◌, ◌++◌, ◌+◌, ◌∷◌, [], ℕ, Some, None, IfOk, OnOk, OnErr, MatchOption, false, codes, length, take, drop, min, vec_len, vec_capacity, map};
-ghost use Rattle.cd_world.specs.Causes.{HasCause, Rose};
+ghost use Rattle.std.specs.Prelude.{◌≡◌, ◌≢◌, ◌<◌, ◌≤◌, ◌++◌, ◌+◌, ◌∷◌, [], ℕ, Some, None, IfOk, OnOk, OnErr, MatchOption, false, codes, length, take, drop, min, vec_len, vec_capacity, map};
+ghost use Rattle.cd_world.specs.Causes.{IsCounted, risen};
 ghost use Rattle.cd_world.specs.Events.{gave, wrote, opened, opening};
 ghost use Rattle.cd_world.specs.Law.{is_missing};
 ghost use Rattle.cd_world.specs.Plan.{FailsWhere, after, counted};
@@ -29,6 +29,31 @@ const STDERR: &str = "<stderr>";
 pub struct Side {
     pub member: Literal,
     pub given: usize,
+}
+
+/// The names that an open keeps: its file's in the table and in the log, and its member's.
+#[derive(Drop)]
+struct Names {
+    entry: Literal,
+    told: Literal,
+    member: Literal,
+}
+
+impl Names {
+    fn new(alloc: Global, name: &str) -> Result<Names, NoMemory>
+        ensures entry { IfOk result (λ names. names.entry ≡ name.now) }
+        ensures told { IfOk result (λ names. names.told ≡ name.now) }
+        ensures member { IfOk result (λ names. names.member ≡ member_name name.now) }
+    {
+        let entry = Literal::new(alloc, name)?;
+        let told = Literal::new(alloc, name)?;
+        let member = member_name(alloc, name)?;
+        Ok(Names {
+            entry,
+            told,
+            member,
+        })
+    }
 }
 
 /// Files and streams in memory, which tell what they hold and what was called. Reads and writes are cut and calls fail
@@ -130,8 +155,7 @@ impl MemoryWorld {
     /// Counts a failure and notes its event.
     fn fail(&mut self, event: Event)
         requires { vec_len self.old.table.files + 1 ≤ self.old.log.1 }
-        ensures cause { Rose self.old.faults self.new.faults }
-        ensures later { self.old.faults ≤ self.new.faults }
+        ensures count { self.new.faults ≡ risen self.old.faults }
         ensures log { self.new.log.0 ≡ self.old.log.0 ++ event ∷ [] }
         ensures table { self.new.table.files.items ≡ self.old.table.files.items }
         ensures last { self.new.table.last ≡ self.old.table.last }
@@ -190,7 +214,7 @@ impl MemoryWorld {
 
     /// Opens a file for a use.
     fn open_for(&mut self, use_of: Use, name: &str) -> Result<Descriptor, WorldError>
-        ensures cause { HasCause self.old.faults self.new.faults result }
+        ensures count { IsCounted self.old.faults self.new.faults result }
         ensures live { Opens use_of name.now (live_in self.old) (live_in self.new) self.old.table.last self.new.table.last result }
         ensures log { self.new.log.0 ≡ self.old.log.0 ++ opened use_of name.now result }
         ensures files { files_in self.new ≡ after_open use_of name.now result (files_in self.old) }
@@ -198,30 +222,40 @@ impl MemoryWorld {
         ensures held { held_in self.new ≡ held_after_open use_of (member_name name.now) result (held_in self.old) }
         ensures plans { plan_in self.new ≡ after result (counted Call.Opening (member_name name.now)) (plan_in self.old) }
     {
-        let entry = Literal::new(self.alloc, name)?;
-        let told = Literal::new(self.alloc, name)?;
-        let member = member_name(self.alloc, name)?;
         self.reserve()?;
+        let Names {
+            entry,
+            told,
+            member,
+        } = Names::new(self.alloc, name)?;
         if self.is_refused(use_of, name, member.as_str()) {
             self.store.count(Call::Opening, member.as_str());
+            drop((entry, member));
             self.fail(Event::OpenFailed(told));
             return Err(WorldError::Failed);
         }
-        self.prepare(use_of, name, member.as_str())?;
-        self.store.count(Call::Opening, member.as_str());
-        let descriptor = self.admit(use_of, entry, member);
-        self.log
-            .push(opened_event(use_of, told, descriptor))
-            .unwrap();
-        Ok(descriptor)
+        match self.prepare(use_of, name, member.as_str()) {
+            Ok(()) => {
+                self.store.count(Call::Opening, member.as_str());
+                let descriptor = self.admit(use_of, entry, member);
+                self.log
+                    .push(opened_event(use_of, told, descriptor))
+                    .unwrap();
+                Ok(descriptor)
+            }
+            Err(NoMemory) => {
+                drop((entry, told, member));
+                Err(WorldError::NoMemory)
+            }
+        }
     }
 
     /// Notes the event of a call that failed, and none where memory was wanting, and answers why it was refused.
     fn refuse(&mut self, error: WorldError, event: Event) -> WorldError
         requires { vec_len self.old.table.files + 1 ≤ self.old.log.1 }
         ensures same { result ≡ error }
-        ensures later { self.old.faults ≤ self.new.faults }
-        ensures cause { error ≡ WorldError.Failed → Rose self.old.faults self.new.faults }
+        ensures failed { error ≡ WorldError.Failed → self.new.faults ≡ risen self.old.faults }
+        ensures calm { error ≢ WorldError.Failed → self.new.faults ≡ self.old.faults }
         ensures log { self.new.log.0 ≡ self.old.log.0 ++ where_failed error event }
         ensures table { self.new.table.files.items ≡ self.old.table.files.items }
         ensures last { self.new.table.last ≡ self.old.table.last }
@@ -240,7 +274,7 @@ impl MemoryWorld {
         requires some { 0 < length into.old }
         requires room { vec_len self.old.table.files + 1 ≤ self.old.log.1 }
         ensures within { IfOk result (λ count. count ≤ length into.new) }
-        ensures cause { HasCause self.old.faults self.new.faults result }
+        ensures count { IsCounted self.old.faults self.new.faults result }
         ensures table { self.new.table.files.items ≡ self.old.table.files.items }
         ensures last { self.new.table.last ≡ self.old.table.last }
         ensures log { self.new.log.0 ≡ self.old.log.0 ++ gave from into.new result }
@@ -267,7 +301,7 @@ impl MemoryWorld {
         requires some { 0 < length into.old }
         requires room { vec_len self.old.table.files + 1 ≤ self.old.log.1 }
         ensures within { IfOk result (λ count. count ≤ length into.new) }
-        ensures cause { HasCause self.old.faults self.new.faults result }
+        ensures count { IsCounted self.old.faults self.new.faults result }
         ensures table { self.new.table.files.items ≡ self.old.table.files.items }
         ensures last { self.new.table.last ≡ self.old.table.last }
         ensures log { self.new.log.0 ≡ self.old.log.0 ++ gave from into.new result }
@@ -303,7 +337,7 @@ impl MemoryWorld {
         requires room { vec_len self.old.table.files + 1 ≤ self.old.log.1 }
         requires some { 0 < length bytes.now }
         ensures within { IfOk result (λ count. (0 < count) × (count ≤ length bytes.now)) }
-        ensures cause { HasCause self.old.faults self.new.faults result }
+        ensures count { IsCounted self.old.faults self.new.faults result }
         ensures table { self.new.table.files.items ≡ self.old.table.files.items }
         ensures last { self.new.table.last ≡ self.old.table.last }
         ensures log { self.new.log.0 ≡ self.old.log.0 ++ wrote to bytes.now result }
@@ -327,7 +361,7 @@ impl MemoryWorld {
         requires room { vec_len self.old.table.files + 1 ≤ self.old.log.1 }
         requires some { 0 < length bytes.now }
         ensures within { IfOk result (λ count. (0 < count) × (count ≤ length bytes.now)) }
-        ensures cause { HasCause self.old.faults self.new.faults result }
+        ensures count { IsCounted self.old.faults self.new.faults result }
         ensures table { self.new.table.files.items ≡ self.old.table.files.items }
         ensures last { self.new.table.last ≡ self.old.table.last }
         ensures log { self.new.log.0 ≡ self.old.log.0 ++ wrote to bytes.now result }

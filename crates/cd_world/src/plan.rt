@@ -17,7 +17,7 @@ pub enum Fail {
 pub type FailList = Items<Fail>;
 
 /// The sorts of calls on a member. An opening is one for any use.
-#[derive(Clone, Copy, Debug, PartialEq, Eq)]
+#[derive(Clone, Copy)]
 pub enum Call {
     Opening,
     Reading,

@@ -3,7 +3,7 @@ ghost use Rattle.std.specs.Prelude.{◌≡◌, ◌<◌, ◌≤◌, ◌++◌, ◌
 ghost use Rattle.cd_world.specs.declared.event.Event.{Event};
 ghost use Rattle.cd_world.specs.declared.event.Use.TheVariants.{Reading, Writing, Marking};
 ghost use Rattle.cd_world.specs.declared.event.Use.{Use};
-ghost use Rattle.cd_world.specs.Causes.{HasCause, HasCloseCause};
+ghost use Rattle.cd_world.specs.Causes.{IsCloseCounted, IsCounted};
 ghost use Rattle.cd_world.specs.Live.{Open, Opens, IsLive, Removes, open_as};
 ghost use Rattle.cd_world.specs.Files.{Files, after_open, ReadsFile, ReadsInput, WritesFile, WritesOutput, WritesErrors, ClosesFile};
 ghost use Rattle.cd_world.specs.Events.{opened, gave, wrote, closed};
@@ -63,21 +63,21 @@ pub trait World {
 
     /// Opens a file for reading at its beginning.
     fn open_read(&mut self, name: &str) -> Result<Descriptor, WorldError>
-        ensures cause { HasCause (faults self.old) (faults self.new) result }
+        ensures count { IsCounted (faults self.old) (faults self.new) result }
         ensures live { Opens Reading name.now (live self.old) (live self.new) (last self.old) (last self.new) result }
         ensures log { IsTrue tells_log → log self.new ≡ log self.old ++ opened Reading name.now result }
         ensures files { IsTrue tells_files → files self.new ≡ after_open Reading name.now result (files self.old) };
 
     /// Makes a file or empties it, for writing.
     fn create(&mut self, name: &str) -> Result<Descriptor, WorldError>
-        ensures cause { HasCause (faults self.old) (faults self.new) result }
+        ensures count { IsCounted (faults self.old) (faults self.new) result }
         ensures live { Opens Writing name.now (live self.old) (live self.new) (last self.old) (last self.new) result }
         ensures log { IsTrue tells_log → log self.new ≡ log self.old ++ opened Writing name.now result }
         ensures files { IsTrue tells_files → files self.new ≡ after_open Writing name.now result (files self.old) };
 
     /// Makes or empties a file that its close removes.
     fn mark(&mut self, name: &str) -> Result<Descriptor, WorldError>
-        ensures cause { HasCause (faults self.old) (faults self.new) result }
+        ensures count { IsCounted (faults self.old) (faults self.new) result }
         ensures live { Opens Marking name.now (live self.old) (live self.new) (last self.old) (last self.new) result }
         ensures log { IsTrue tells_log → log self.new ≡ log self.old ++ opened Marking name.now result }
         ensures files { IsTrue tells_files → files self.new ≡ after_open Marking name.now result (files self.old) };
@@ -88,7 +88,7 @@ pub trait World {
         requires readable { (from.0 ≡ 0) ⊎ IsLive Reading from (live self.old) }
         requires room { 0 < length into.old }
         ensures within { IfOk result (λ count. count ≤ length into.new) }
-        ensures cause { HasCause (faults self.old) (faults self.new) result }
+        ensures count { IsCounted (faults self.old) (faults self.new) result }
         ensures live { live self.new ≡ live self.old }
         ensures last { last self.new ≡ last self.old }
         ensures log { IsTrue tells_log → log self.new ≡ log self.old ++ gave from into.new result }
@@ -102,7 +102,7 @@ pub trait World {
         requires writable { (to.0 ≡ 1) ⊎ (to.0 ≡ 2) ⊎ IsLive Writing to (live self.old) }
         requires some { 0 < length bytes.now }
         ensures within { IfOk result (λ count. (0 < count) × (count ≤ length bytes.now)) }
-        ensures cause { HasCause (faults self.old) (faults self.new) result }
+        ensures count { IsCounted (faults self.old) (faults self.new) result }
         ensures live { live self.new ≡ live self.old }
         ensures last { last self.new ≡ last self.old }
         ensures log { IsTrue tells_log → log self.new ≡ log self.old ++ wrote to bytes.now result }
@@ -114,7 +114,7 @@ pub trait World {
     /// Closes an open file, whatever it answers. It takes no memory.
     fn close(&mut self, which: Descriptor) -> Result<(), CloseFailed>
         requires open { (use_of : Use) × IsLive use_of which (live self.old) }
-        ensures cause { HasCloseCause (faults self.old) (faults self.new) result }
+        ensures count { IsCloseCounted (faults self.old) (faults self.new) result }
         ensures live { Removes which (live self.old) (live self.new) }
         ensures last { last self.new ≡ last self.old }
         ensures log { IsTrue tells_log → log self.new ≡ log self.old ++ closed which result }

@@ -1,114 +1,62 @@
 -- Classes and maps by their bounds, and tests of pieces.
-use Rattle.std.specs.Prelude.{◌≡◌, refl, [], ◌∷◌, codes, true, false}
+use Rattle.std.specs.Prelude.{◌≡◌, ℕ, Bool, refl, List, [], ◌∷◌, map, codes, true, false}
+use Rattle.cd_elem.specs.declared.word.Class.{Class}
 use Rattle.cd_meaning.specs.Stream.{Sort}
 use Rattle.cd_meaning.specs.Classes.{is_in_class, element_mapped, passes_test, piece_mapped}
 use Rattle.cd_meaning.specs.Rows.Short.{add, alnum, alpha, begins, below, digit, empty, ends, hexdigit, is_scalar, lower, newline, not_class, not_test, prefix, reversed, rot13, shorter, space, suffix, upper, xor}
 
--- each range from one below it to one above it
-digit_from : is_in_class digit 47 ≡ false
-digit_from = refl
+-- The numbers at both ends of each range, and those just outside it: which of them are in the class.
+abbrev Holds : Class → List ℕ → List Bool → Type 0
+Holds c numbers answers = map (is_in_class c) numbers ≡ answers
 
-digit_first : is_in_class digit 48 ≡ true
-digit_first = refl
+digit_edges : Holds digit (47 ∷ 48 ∷ 57 ∷ 58 ∷ []) (false ∷ true ∷ true ∷ false ∷ [])
+digit_edges = refl
 
-digit_last : is_in_class digit 57 ≡ true
-digit_last = refl
+upper_edges : Holds upper (64 ∷ 65 ∷ 90 ∷ 91 ∷ 97 ∷ []) (false ∷ true ∷ true ∷ false ∷ false ∷ [])
+upper_edges = refl
 
-digit_to : is_in_class digit 58 ≡ false
-digit_to = refl
+lower_edges : Holds lower (96 ∷ 97 ∷ 122 ∷ 123 ∷ 65 ∷ []) (false ∷ true ∷ true ∷ false ∷ false ∷ [])
+lower_edges = refl
 
-upper_from : is_in_class upper 64 ≡ false
-upper_from = refl
+alpha_edges : Holds alpha (64 ∷ 65 ∷ 90 ∷ 91 ∷ 96 ∷ 97 ∷ 122 ∷ 123 ∷ []) (false ∷ true ∷ true ∷ false ∷ false ∷ true ∷ true ∷ false ∷ [])
+alpha_edges = refl
 
-upper_first : is_in_class upper 65 ≡ true
-upper_first = refl
+alpha_no_digit : Holds alpha (48 ∷ 57 ∷ []) (false ∷ false ∷ [])
+alpha_no_digit = refl
 
-upper_last : is_in_class upper 90 ≡ true
-upper_last = refl
+alnum_edges : Holds alnum (47 ∷ 48 ∷ 57 ∷ 58 ∷ 64 ∷ 65 ∷ 90 ∷ 91 ∷ 96 ∷ 97 ∷ 122 ∷ 123 ∷ []) (false ∷ true ∷ true ∷ false ∷ false ∷ true ∷ true ∷ false ∷ false ∷ true ∷ true ∷ false ∷ [])
+alnum_edges = refl
 
-upper_to : is_in_class upper 91 ≡ false
-upper_to = refl
+hexdigit_edges : Holds hexdigit (47 ∷ 48 ∷ 57 ∷ 58 ∷ 64 ∷ 65 ∷ 70 ∷ 71 ∷ 96 ∷ 97 ∷ 102 ∷ 103 ∷ []) (false ∷ true ∷ true ∷ false ∷ false ∷ true ∷ true ∷ false ∷ false ∷ true ∷ true ∷ false ∷ [])
+hexdigit_edges = refl
 
-lower_from : is_in_class lower 96 ≡ false
-lower_from = refl
+space_edges : Holds space (8 ∷ 9 ∷ 10 ∷ 11 ∷ 12 ∷ 13 ∷ 14 ∷ 31 ∷ 32 ∷ 33 ∷ []) (false ∷ true ∷ true ∷ true ∷ true ∷ true ∷ false ∷ false ∷ true ∷ false ∷ [])
+space_edges = refl
 
-lower_first : is_in_class lower 97 ≡ true
-lower_first = refl
+newline_edges : Holds newline (9 ∷ 10 ∷ 11 ∷ 13 ∷ []) (false ∷ true ∷ false ∷ false ∷ [])
+newline_edges = refl
 
-lower_last : is_in_class lower 122 ≡ true
-lower_last = refl
+-- 321 is 65 modulo 256 alone
+classes_are_of_ascii : map (λ c. is_in_class c 321) (upper ∷ alpha ∷ alnum ∷ hexdigit ∷ []) ≡ false ∷ false ∷ false ∷ false ∷ []
+classes_are_of_ascii = refl
 
-lower_to : is_in_class lower 123 ≡ false
-lower_to = refl
+scalar_edges : Holds (is_scalar 8364) (8363 ∷ 8364 ∷ 8365 ∷ []) (false ∷ true ∷ false ∷ [])
+scalar_edges = refl
 
-alpha_upper : is_in_class alpha 90 ≡ true
-alpha_upper = refl
+below_edges : Holds (below 5) (0 ∷ 4 ∷ 5 ∷ 6 ∷ []) (true ∷ true ∷ false ∷ false ∷ [])
+below_edges = refl
 
-alpha_lower : is_in_class alpha 97 ≡ true
-alpha_lower = refl
+below_nothing : Holds (below 0) (0 ∷ 1 ∷ []) (false ∷ false ∷ [])
+below_nothing = refl
+
+class_not : Holds (not_class digit) (47 ∷ 48 ∷ 57 ∷ 58 ∷ []) (true ∷ false ∷ false ∷ true ∷ [])
+class_not = refl
 
 alpha_not : is_in_class alpha 95 ≡ false
 alpha_not = refl
 
-alnum_digit : is_in_class alnum 48 ≡ true
-alnum_digit = refl
-
-alnum_letter : is_in_class alnum 122 ≡ true
-alnum_letter = refl
-
 alnum_not : is_in_class alnum 95 ≡ false
 alnum_not = refl
-
-hexdigit_digit : is_in_class hexdigit 57 ≡ true
-hexdigit_digit = refl
-
-hexdigit_upper : is_in_class hexdigit 70 ≡ true
-hexdigit_upper = refl
-
-hexdigit_upper_to : is_in_class hexdigit 71 ≡ false
-hexdigit_upper_to = refl
-
-hexdigit_lower : is_in_class hexdigit 102 ≡ true
-hexdigit_lower = refl
-
-hexdigit_lower_to : is_in_class hexdigit 103 ≡ false
-hexdigit_lower_to = refl
-
-space_from : is_in_class space 8 ≡ false
-space_from = refl
-
-space_tab : is_in_class space 9 ≡ true
-space_tab = refl
-
-space_return : is_in_class space 13 ≡ true
-space_return = refl
-
-space_to : is_in_class space 14 ≡ false
-space_to = refl
-
-space_blank : is_in_class space 32 ≡ true
-space_blank = refl
-
-newline_is : is_in_class newline 10 ≡ true
-newline_is = refl
-
-newline_not : is_in_class newline 13 ≡ false
-newline_not = refl
-
-scalar_is : is_in_class (is_scalar 8364) 8364 ≡ true
-scalar_is = refl
-
-scalar_not : is_in_class (is_scalar 8364) 8365 ≡ false
-scalar_not = refl
-
-below_less : is_in_class (below 5) 4 ≡ true
-below_less = refl
-
-below_same : is_in_class (below 5) 5 ≡ false
-below_same = refl
-
-class_not : is_in_class (not_class digit) 48 ≡ false
-class_not = refl
 
 -- maps
 xor_is : element_mapped (xor 255) 97 ≡ 158
@@ -131,6 +79,12 @@ rot13_upper_z = refl
 
 rot13_digit : element_mapped rot13 49 ≡ 49
 rot13_digit = refl
+
+rot13_edges : map (element_mapped rot13) (64 ∷ 65 ∷ 77 ∷ 78 ∷ 90 ∷ 91 ∷ 96 ∷ 97 ∷ 109 ∷ 110 ∷ 122 ∷ 123 ∷ []) ≡ 64 ∷ 78 ∷ 90 ∷ 65 ∷ 77 ∷ 91 ∷ 96 ∷ 110 ∷ 122 ∷ 97 ∷ 109 ∷ 123 ∷ []
+rot13_edges = refl
+
+map_numbers : map (λ f. element_mapped f 255) (xor 0 ∷ xor 255 ∷ add 0 ∷ add 1 ∷ add 255 ∷ []) ≡ 255 ∷ 0 ∷ 255 ∷ 0 ∷ 254 ∷ []
+map_numbers = refl
 
 -- tests; the euro sign is three bytes and one character
 empty_is : passes_test empty Sort.Block [] ≡ true

@@ -1,6 +1,7 @@
 -- The words on elements, each on an empty input, an input that ends before the word does, one that waits, and where the word ends by itself.
-use Rattle.std.specs.Prelude.{◌≡◌, [], ◌∷◌, codes, true, false}
+use Rattle.std.specs.Prelude.{◌≡◌, refl, [], ◌∷◌, ◌+◌, codes, true, false}
 use Rattle.cd_meaning.specs.Stream.{bad_hex, Ended, Halted, Stop, Value, absent, present}
+use Rattle.cd_meaning.specs.Words.{as_count}
 use Rattle.cd_meaning.specs.Rows.Short.{add, all_e, any_e, collect_e, digit, drop_e, drop_while_e, filter_e, head_e, last_e, length_e, map_e, null_e, pass_e, peek_e, repeat_e, rot13, sink_null, space, sum_e, take_e, take_while_e, xor}
 use Rattle.cd_meaning.specs.Rows.Given.{rows, at_end, done_at, gives_elem, on_blocks, on_bytes, on_chars, stops_at, waiting, waits_past}
 
@@ -165,6 +166,25 @@ sum_e_short = simp rows
 
 sum_e_waits : on_bytes sum_e (250 ∷ 10 ∷ []) waiting ≡ waits_past 2
 sum_e_waits = simp rows
+
+-- sums and counts stay at the greatest number that there is
+sum_e_below_greatest : on_bytes sum_e (18446744073709551612 ∷ 1 ∷ 1 ∷ []) Ended ≡ done_at 4 3 (Value.Num 18446744073709551614)
+sum_e_below_greatest = simp rows
+
+sum_e_past_greatest : on_bytes sum_e (18446744073709551612 ∷ 1 ∷ 1 ∷ 200 ∷ 7 ∷ []) Ended ≡ done_at 6 5 (Value.Num 18446744073709551615)
+sum_e_past_greatest = simp rows
+
+sum_e_one_past : on_bytes sum_e (18446744073709551615 ∷ 1 ∷ []) Ended ≡ done_at 3 2 (Value.Num 18446744073709551615)
+sum_e_one_past = simp rows
+
+count_below_greatest : as_count (18446744073709551611 + 3) ≡ 18446744073709551614
+count_below_greatest = refl
+
+count_past_greatest : as_count (18446744073709551614 + 3) ≡ 18446744073709551615
+count_past_greatest = refl
+
+count_one_past : as_count 18446744073709551616 ≡ 18446744073709551615
+count_one_past = refl
 
 -- `allE`: the first value that fails decides
 all_e_empty : on_bytes (all_e digit) [] Ended ≡ done_at 1 0 (Value.Bool true)

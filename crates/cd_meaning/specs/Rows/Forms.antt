@@ -1,9 +1,9 @@
 -- Operators, sections, sequences and zips, with the stamps of the whole.
 use Rattle.std.specs.Prelude.{◌≡◌, [], ◌∷◌, codes}
-use Rattle.cd_meaning.specs.Stream.{Another, bad_hex, Ended, NoValues, Open, Put, Value, absent, present}
+use Rattle.cd_meaning.specs.Stream.{Another, bad_base64, bad_hex, Ended, NoValues, Open, Put, Value, absent, present}
 use Rattle.cd_meaning.specs.Words.{AtEnd, MayGoOn}
-use Rattle.cd_meaning.specs.Rows.Short.{blocks_word, chunks_of_word, digit, drop_e, drop_word, empty, exactly_e_form, exactly_form, filter_e, flat_word, head_e, head_word, hex_decode_word, length_e, length_word, line_e_form, lines_word, map_e, map_word, pass_e, pass_word, peek_e, peek_word, piped, piped_asked, piped_both, piped_keep, piped_return, piped_up, reversed, sequence_form, sink_file_word, sink_null, source_file_word, stdout_word, take_e, take_while_e, take_while_word, take_word, tee_form, texts_word, xor, zip_conduit_form, zip_sink_form, zip_source_form}
-use Rattle.cd_meaning.specs.Rows.Given.{rows, at_end, does_at, done_at, gives_elem, gives_piece, late_elem, on_blocks, on_bytes, on_chars, on_nothing, on_texts, seen_of, stops_at, told_of, waiting, waits_for, waits_past}
+use Rattle.cd_meaning.specs.Rows.Short.{base64_decode_word, blocks_word, bytes_word, chunks_of_word, digit, drop_e, drop_word, empty, exactly_e_form, exactly_form, filter_e, flat_word, head_e, head_word, hex_decode_word, length_e, length_word, line_e_form, lines_word, map_e, map_word, pass_e, pass_word, peek_e, peek_word, piped, piped_asked, piped_both, piped_keep, piped_return, piped_up, reversed, sequence_form, sink_file_word, sink_null, source_file_word, stdin_word, stdout_word, take_e, take_while_e, take_while_word, take_word, tee_form, texts_word, xor, zip_conduit_form, zip_sink_form, zip_source_form}
+use Rattle.cd_meaning.specs.Rows.Given.{rows, at_end, does_at, done_at, gives_elem, gives_piece, late_elem, on_blocks, on_bytes, on_chars, on_nothing, on_texts, seen_of, stops_at, told_of, waiting, waits_for, waits_past, waits_reading}
 
 -- `|`: the stamps are the first part's, where the second one asked
 piped_empty : on_bytes (piped (pass_e ∷ length_e ∷ [])) [] Ended ≡ done_at 1 0 (Value.Num 0)
@@ -185,6 +185,13 @@ sequence_first_waits = simp rows
 sequence_fault : on_bytes (sequence_form (drop_e 1 ∷ hex_decode_word ∷ [])) (codes "x4G") waiting ≡ stops_at 3 3 (bad_hex 0)
 sequence_fault = simp rows
 
+-- what was given back before it waits or stops was not taken: the net is less than the need
+sequence_reading_waits : on_bytes (sequence_form (peek_e ∷ stdin_word ∷ [])) (codes "a") waiting ≡ waits_reading 1 0 1
+sequence_reading_waits = simp rows
+
+sequence_piped_stops : on_bytes (piped (sequence_form (peek_e ∷ bytes_word (codes "GG") ∷ []) ∷ hex_decode_word ∷ [])) (codes "a") waiting ≡ stops_at 1 0 (bad_hex 0)
+sequence_piped_stops = simp rows
+
 -- `zipSink`: at equal need the first part's acts come first
 zip_sink_empty : on_bytes (zip_sink_form head_e length_e) [] Ended ≡ done_at 1 0 (Value.Pair absent (Value.Num 0))
 zip_sink_empty = simp rows
@@ -203,6 +210,24 @@ zip_sink_peeks = simp rows
 
 zip_sink_order : on_bytes (zip_sink_form stdout_word sink_null) (codes "ab") Ended ≡ does_at 1 1 (Put 1 97) (does_at 2 2 (Put 1 98) (at_end 2))
 zip_sink_order = simp rows
+
+-- an ending stands behind the acts of its own part, and before those of the second part at the same need
+zip_sink_stops_second : on_bytes (zip_sink_form stdout_word hex_decode_word) (codes "GG") Ended ≡ does_at 1 1 (Put 1 71) (does_at 2 2 (Put 1 71) (stops_at 2 2 (bad_hex 0)))
+zip_sink_stops_second = simp rows
+
+zip_sink_stops_first : on_bytes (zip_sink_form hex_decode_word stdout_word) (codes "GG") Ended ≡ does_at 1 1 (Put 1 71) (stops_at 2 2 (bad_hex 0))
+zip_sink_stops_first = simp rows
+
+-- of two at one need the first part's
+zip_sink_both_stop : on_bytes (zip_sink_form hex_decode_word base64_decode_word) (codes "4aG=") Ended ≡ gives_elem 2 74 (stops_at 4 4 (bad_hex 2))
+zip_sink_both_stop = simp rows
+
+zip_sink_both_stop_turned : on_bytes (zip_sink_form base64_decode_word hex_decode_word) (codes "4aG=") Ended ≡ gives_elem 2 74 (stops_at 4 4 (bad_base64 0))
+zip_sink_both_stop_turned = simp rows
+
+-- of two at different needs the earlier one
+zip_sink_earlier_stop : on_bytes (zip_sink_form base64_decode_word hex_decode_word) (codes "GGG=") Ended ≡ stops_at 2 2 (bad_hex 0)
+zip_sink_earlier_stop = simp rows
 
 -- `zipConduit`
 zip_conduit_empty : on_blocks (zip_conduit_form pass_word (map_word reversed)) [] Ended ≡ at_end 0

@@ -76,9 +76,12 @@ waits_at need net = Ends (stamp need net) (Halts (More Input))
 abbrev pub waits_past : ℕ → Run
 waits_past n = waits_at (n + 1) n
 
--- a source waits for its site
+-- it waits for a site, a source behind no input
+abbrev pub waits_reading : ℕ → ℕ → ℕ → Run
+waits_reading need net s = Ends (stamp need net) (Halts (More (Reading s)))
+
 abbrev pub waits_for : ℕ → Run
-waits_for s = Ends (stamp 0 0) (Halts (More (Reading s)))
+waits_for s = waits_reading 0 0 s
 
 abbrev pub stops_at : ℕ → ℕ → Stopped → Run
 stops_at need net f = Ends (stamp need net) (Halts (Stop f))

@@ -5,7 +5,7 @@ use Rattle.std.specs.Fmt.{digits}
 use Rattle.cd_meaning.specs.Stream.{Open, Put, Close, Halts, Stop, Long}
 use Rattle.cd_meaning.specs.Run.{effects, ending}
 use Rattle.cd_meaning.specs.Words.{Mark, AtEnd, TooLong, Told, Seen}
-use Rattle.cd_meaning.specs.Places.{Place, Reads, ReadsInput, Writes, WritesOutput, Marks, Agree, Begins, output_of, sent_to, whole}
+use Rattle.cd_meaning.specs.Places.{Place, Reads, ReadsInput, Writes, WritesOutput, Marks, output_of, sent_to, whole}
 use Rattle.cd_meaning.specs.Pipes.{nodes}
 use Rattle.cd_meaning.specs.Scripts.{script_places, statement_places, script_run, standard_output}
 use Rattle.cd_meaning.specs.Rows.Trees.{Tree, Sentence, statement_of, all_places_mean}
@@ -50,17 +50,7 @@ later_output = refl
 printed_output : output_of two_outputs 0 ≡ 0
 printed_output = refl
 
--- what goes to standard output agrees, whichever site puts it, and printed results too
-same_output : Agree two_outputs (Put 1 97 ∷ Put 3 98 ∷ Put 0 99 ∷ []) (Put 3 97 ∷ Put 0 98 ∷ Put 1 99 ∷ [])
-same_output = refl
-
--- what goes elsewhere does not, nor in another order
-other_output : Agree two_outputs (Put 1 97 ∷ []) (Put 2 97 ∷ []) → ⊥
-other_output is = cc
-
-begins_so : Begins two_outputs (Put 1 97 ∷ []) (Put 3 97 ∷ Put 2 98 ∷ [])
-begins_so = record { behind = Put 2 98 ∷ []; front = refl }
-
+-- what goes to standard output, whichever site puts it, and printed results too
 sent_so : sent_to two_outputs 0 (Open 2 ∷ Put 1 97 ∷ Put 2 98 ∷ Put 3 99 ∷ Close 2 ∷ Put 0 100 ∷ []) ≡ 97 ∷ 99 ∷ 100 ∷ []
 sent_so = refl
 

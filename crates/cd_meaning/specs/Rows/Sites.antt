@@ -1,5 +1,5 @@
 -- Sources, sinks and `mark`, on what is seen of their sites.
-use Rattle.std.specs.Prelude.{◌≡◌, [], ◌∷◌, codes}
+use Rattle.std.specs.Prelude.{◌≡◌, ℕ, List, [], ◌∷◌, ◌++◌, codes}
 use lib.Utf8.{encode}
 use Rattle.std.specs.Fmt.{digits}
 use Rattle.cd_meaning.specs.Stream.{bad_hex, bad_text, Close, Ended, Halted, Long, Open, Put, ReadBad, Stop, Value, present}
@@ -54,6 +54,29 @@ text_euro = simp rows
 
 text_sizes : on_nothing (text_word (195 ∷ 169 ∷ 240 ∷ 159 ∷ 152 ∷ 128 ∷ 97 ∷ [])) (seen_of []) ≡ gives_elem 0 233 (gives_elem 0 128512 (gives_elem 0 97 (done_at 0 0 Value.Unit)))
 text_sizes = simp rows
+
+-- the first and the last character of each length, between two of one byte
+abbrev TextOf : List ℕ → ℕ → Type 0
+TextOf bytes c = on_nothing (text_word (97 ∷ bytes ++ 98 ∷ [])) (seen_of []) ≡ gives_elem 0 97 (gives_elem 0 c (gives_elem 0 98 (done_at 0 0 Value.Unit)))
+
+text_of_one : TextOf (0 ∷ []) 0 × TextOf (127 ∷ []) 127
+text_of_one = (simp rows, simp rows)
+
+text_of_two : TextOf (194 ∷ 128 ∷ []) 128 × TextOf (223 ∷ 191 ∷ []) 2047
+text_of_two = (simp rows, simp rows)
+
+text_of_three : TextOf (224 ∷ 160 ∷ 128 ∷ []) 2048 × TextOf (239 ∷ 191 ∷ 191 ∷ []) 65535
+text_of_three = (simp rows, simp rows)
+
+text_of_four : TextOf (240 ∷ 144 ∷ 128 ∷ 128 ∷ []) 65536 × TextOf (244 ∷ 143 ∷ 191 ∷ 191 ∷ []) 1114111
+text_of_four = (simp rows, simp rows)
+
+-- with nothing before or behind it
+text_alone : on_nothing (text_word (224 ∷ 160 ∷ 128 ∷ [])) (seen_of []) ≡ gives_elem 0 2048 (done_at 0 0 Value.Unit)
+text_alone = simp rows
+
+text_first : on_nothing (text_word (224 ∷ 160 ∷ 128 ∷ 97 ∷ [])) (seen_of []) ≡ gives_elem 0 2048 (gives_elem 0 97 (done_at 0 0 Value.Unit))
+text_first = simp rows
 
 blocks_empty : on_nothing (blocks_word []) (seen_of []) ≡ done_at 0 0 Value.Unit
 blocks_empty = simp rows

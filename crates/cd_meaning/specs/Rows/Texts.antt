@@ -31,18 +31,9 @@ utf8_three = simp rows
 utf8_four : on_bytes utf8_word (240 ∷ 144 ∷ 128 ∷ 128 ∷ 244 ∷ 143 ∷ 191 ∷ 191 ∷ []) Ended ≡ gives_elem 4 65536 (gives_elem 8 1114111 (at_end 8))
 utf8_four = simp rows
 
-utf8_before_surrogates : on_bytes utf8_word (237 ∷ 159 ∷ 191 ∷ []) Ended ≡ gives_elem 3 55295 (at_end 3)
-utf8_before_surrogates = simp rows
-
-utf8_after_surrogates : on_bytes utf8_word (238 ∷ 128 ∷ 128 ∷ []) Ended ≡ gives_elem 3 57344 (at_end 3)
-utf8_after_surrogates = simp rows
-
 -- bytes that begin nothing, and bytes that go nowhere
 utf8_bad_first : on_bytes utf8_word (65 ∷ 255 ∷ []) Ended ≡ gives_elem 1 65 (stops_at 2 2 (bad_text 1))
 utf8_bad_first = simp rows
-
-utf8_bad_tail : on_bytes utf8_word (128 ∷ []) waiting ≡ stops_at 1 1 (bad_text 0)
-utf8_bad_tail = simp rows
 
 utf8_overlong_two : on_bytes utf8_word (192 ∷ 128 ∷ []) Ended ≡ stops_at 1 1 (bad_text 0)
 utf8_overlong_two = simp rows
@@ -50,20 +41,8 @@ utf8_overlong_two = simp rows
 utf8_overlong_last : on_bytes utf8_word (193 ∷ 191 ∷ []) Ended ≡ stops_at 1 1 (bad_text 0)
 utf8_overlong_last = simp rows
 
-utf8_past_all : on_bytes utf8_word (245 ∷ []) waiting ≡ stops_at 1 1 (bad_text 0)
-utf8_past_all = simp rows
-
-utf8_overlong_three : on_bytes utf8_word (224 ∷ 159 ∷ []) Ended ≡ stops_at 2 2 (bad_text 0)
-utf8_overlong_three = simp rows
-
 utf8_surrogate : on_bytes utf8_word (65 ∷ 237 ∷ 160 ∷ 128 ∷ []) Ended ≡ gives_elem 1 65 (stops_at 3 3 (bad_text 1))
 utf8_surrogate = simp rows
-
-utf8_overlong_four : on_bytes utf8_word (240 ∷ 143 ∷ []) Ended ≡ stops_at 2 2 (bad_text 0)
-utf8_overlong_four = simp rows
-
-utf8_past_last : on_bytes utf8_word (244 ∷ 144 ∷ []) Ended ≡ stops_at 2 2 (bad_text 0)
-utf8_past_last = simp rows
 
 utf8_bad_later : on_bytes utf8_word (226 ∷ 130 ∷ 65 ∷ []) Ended ≡ stops_at 3 3 (bad_text 0)
 utf8_bad_later = simp rows

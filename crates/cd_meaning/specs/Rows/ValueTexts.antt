@@ -40,8 +40,28 @@ char_high = refl
 char_sixteen : value_text (Value.Char 16) ≡ codes "\"\\u{10}\""
 char_sixteen = refl
 
+char_fifteen : value_text (Value.Char 15) ≡ codes "\"\\u{f}\""
+char_fifteen = refl
+
+char_space : value_text (Value.Char 32) ≡ codes "\" \""
+unfolding encode
+char_space = refl
+
+char_before_delete : value_text (Value.Char 126) ≡ codes "\"~\""
+unfolding encode
+char_before_delete = refl
+
 char_delete : value_text (Value.Char 127) ≡ codes "\"\\u{7f}\""
 char_delete = refl
+
+-- U+0080, of two bytes
+char_behind_delete : value_text (Value.Char 128) ≡ 34 ∷ 194 ∷ 128 ∷ 34 ∷ []
+unfolding encode
+char_behind_delete = refl
+
+-- tab, newline and carriage return have no short escapes
+text_controls : value_text (Value.TextV (1 ∷ 9 ∷ 10 ∷ 13 ∷ 15 ∷ 16 ∷ 31 ∷ 127 ∷ [])) ≡ codes "\"\\u{1}\\u{9}\\u{a}\\u{d}\\u{f}\\u{10}\\u{1f}\\u{7f}\""
+text_controls = refl
 
 char_null : value_text (Value.Char 0) ≡ codes "\"\\u{0}\""
 char_null = refl
@@ -55,6 +75,9 @@ text_empty = refl
 
 bytes_escapes : value_text (Value.BytesV (97 ∷ 34 ∷ 92 ∷ 10 ∷ 31 ∷ 32 ∷ 126 ∷ 127 ∷ 200 ∷ [])) ≡ codes "\"a\\\"\\\\\\x0a\\x1f ~\\x7f\\xc8\""
 bytes_escapes = refl
+
+bytes_edges : value_text (Value.BytesV (0 ∷ 9 ∷ 15 ∷ 16 ∷ 31 ∷ 32 ∷ 126 ∷ 127 ∷ 128 ∷ 255 ∷ [])) ≡ codes "\"\\x00\\x09\\x0f\\x10\\x1f ~\\x7f\\x80\\xff\""
+bytes_edges = refl
 
 bytes_empty : value_text (Value.BytesV []) ≡ codes "\"\""
 bytes_empty = refl

@@ -1,6 +1,6 @@
 // The calls of an outside in memory.
 ghost use Rattle.std.specs.Prelude.{◌≡◌, ◌<◌, ◌≤◌, ◌++◌, ℕ, IfOk, codes, length};
-ghost use Rattle.cd_world.specs.Causes.{HasCause, HasCloseCause};
+ghost use Rattle.cd_world.specs.Causes.{IsCloseCounted, IsCounted};
 ghost use Rattle.cd_world.specs.Events.{gave, wrote, opened, closed};
 ghost use Rattle.cd_world.specs.Plan.{FailsWhere, after, counted, fails_next};
 ghost use Rattle.cd_world.specs.Store.{member_name};
@@ -36,7 +36,7 @@ impl World for MemoryWorld {
     ghost known = { λ w. all-known 2 (live_in w) (last_in w) w.table.rising };
 
     fn open_read(&mut self, name: &str) -> Result<Descriptor, WorldError>
-        ensures cause { HasCause (faults_in self.old) (faults_in self.new) result }
+        ensures count { IsCounted (faults_in self.old) (faults_in self.new) result }
         ensures live { Opens Use.Reading name.now (live_in self.old) (live_in self.new) (last_in self.old) (last_in self.new) result }
         ensures log { log_in self.new ≡ log_in self.old ++ opened Use.Reading name.now result }
         ensures files { files_in self.new ≡ after_open Use.Reading name.now result (files_in self.old) }
@@ -50,7 +50,7 @@ impl World for MemoryWorld {
     }
 
     fn create(&mut self, name: &str) -> Result<Descriptor, WorldError>
-        ensures cause { HasCause (faults_in self.old) (faults_in self.new) result }
+        ensures count { IsCounted (faults_in self.old) (faults_in self.new) result }
         ensures live { Opens Use.Writing name.now (live_in self.old) (live_in self.new) (last_in self.old) (last_in self.new) result }
         ensures log { log_in self.new ≡ log_in self.old ++ opened Use.Writing name.now result }
         ensures files { files_in self.new ≡ after_open Use.Writing name.now result (files_in self.old) }
@@ -64,7 +64,7 @@ impl World for MemoryWorld {
     }
 
     fn mark(&mut self, name: &str) -> Result<Descriptor, WorldError>
-        ensures cause { HasCause (faults_in self.old) (faults_in self.new) result }
+        ensures count { IsCounted (faults_in self.old) (faults_in self.new) result }
         ensures live { Opens Use.Marking name.now (live_in self.old) (live_in self.new) (last_in self.old) (last_in self.new) result }
         ensures log { log_in self.new ≡ log_in self.old ++ opened Use.Marking name.now result }
         ensures files { files_in self.new ≡ after_open Use.Marking name.now result (files_in self.old) }
@@ -81,7 +81,7 @@ impl World for MemoryWorld {
         requires readable { (from.0 ≡ 0) ⊎ IsLive Use.Reading from (live_in self.old) }
         requires room { 0 < length into.old }
         ensures within { IfOk result (λ count. count ≤ length into.new) }
-        ensures cause { HasCause (faults_in self.old) (faults_in self.new) result }
+        ensures count { IsCounted (faults_in self.old) (faults_in self.new) result }
         ensures live { live_in self.new ≡ live_in self.old }
         ensures last { last_in self.new ≡ last_in self.old }
         ensures log { log_in self.new ≡ log_in self.old ++ gave from into.new result }
@@ -109,7 +109,7 @@ impl World for MemoryWorld {
         requires writable { (to.0 ≡ 1) ⊎ (to.0 ≡ 2) ⊎ IsLive Use.Writing to (live_in self.old) }
         requires some { 0 < length bytes.now }
         ensures within { IfOk result (λ count. (0 < count) × (count ≤ length bytes.now)) }
-        ensures cause { HasCause (faults_in self.old) (faults_in self.new) result }
+        ensures count { IsCounted (faults_in self.old) (faults_in self.new) result }
         ensures live { live_in self.new ≡ live_in self.old }
         ensures last { last_in self.new ≡ last_in self.old }
         ensures log { log_in self.new ≡ log_in self.old ++ wrote to bytes.now result }
@@ -136,7 +136,7 @@ impl World for MemoryWorld {
 
     fn close(&mut self, which: Descriptor) -> Result<(), CloseFailed>
         requires { (use_of : Use) × IsLive use_of which (live_in self.old) }
-        ensures cause { HasCloseCause (faults_in self.old) (faults_in self.new) result }
+        ensures count { IsCloseCounted (faults_in self.old) (faults_in self.new) result }
         ensures live { Removes which (live_in self.old) (live_in self.new) }
         ensures last { last_in self.new ≡ last_in self.old }
         ensures log { log_in self.new ≡ log_in self.old ++ closed which result }

@@ -3,13 +3,14 @@ use Rattle.std.specs.Prelude.{Contains}
 use Rattle.std.proofs.lemmas.Result.{IfOk-from_err}
 use Rattle.cd_world.specs.declared.event.Use.TheVariants.{Reading}
 use Rattle.cd_world.specs.Live.{Open, open_as}
+use Rattle.cd_cli.proofs.WriteSteps.{ok_unfailed}
 use Rattle.cd_cli.proofs.ScriptSteps.{fill_none, fill_refused, fill_more, fill_end, fill_full, log_fill_none, log_fill_full, log_fill_refused, log_fill_end, log_fill_more}
 use Rattle.cd_cli.proofs.script.fill.Goals as goal
 
 pub loop-filled-init : goal.loop-filled-init
 loop-filled-init g c = record {
   within = omega arith;
-  later = omega arith;
+  calm = refl;
   live = refl;
   files = λ tells name has. fill_none c.args.from.0 name c.args.buffer.now (g.W.World.files c.args.world.now);
   log = λ tells. log_fill_none c.args.from c.args.buffer.now (g.W.World.log c.args.world.now);
@@ -29,7 +30,7 @@ returns-in_err-count-clause-log g c = λ tells.
 pub loop-filled-preserved : goal.loop-filled-preserved
 loop-filled-preserved g c = record {
   within = omega (arith, c.in_ok-count.ensures.within);
-  later = omega arith;
+  calm = c.in_ok-count.ensures.count.calm (ok_unfailed _) ∙ c.loop-filled.invariant.calm;
   live = c.read.ensures.live ∙ c.loop-filled.invariant.live;
   files = λ tells name has.
       let here = subst (λ (live : List Open). Contains live (open_as Reading c.args.from name)) (sym c.loop-filled.invariant.live) has in

@@ -8,7 +8,7 @@ use Rattle.cd_cli.proofs.script.fill.Given as goal
 abbrev pub invariant-loop-filled : goal.invariant-loop-filled
 invariant-loop-filled g l = record {
   within : l.filled ≤ length l.buffer;
-  later : g.W.World.faults l.initial.world ≤ g.W.World.faults l.world;
+  calm : g.W.World.faults l.world ≡ g.W.World.faults l.initial.world;
   live : g.W.World.live l.world ≡ g.W.World.live l.initial.world;
   files : IsTrue g.W.World.tells_files → (name : List ℕ) → Contains (g.W.World.live l.initial.world) (open_as Reading l.from name)
       → Filling l.from.0 name l.filled l.buffer (g.W.World.files l.initial.world) (g.W.World.files l.world);

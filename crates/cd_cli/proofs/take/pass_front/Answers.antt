@@ -13,7 +13,7 @@ use Rattle.cd_cli.proofs.take.pass_front.Goals as goal
 
 pub loop-left-init : goal.loop-left-init
 loop-left-init g c = record {
-  later = omega arith;
+  calm = refl;
   live = refl;
   files = λ tells name has. pass_none c.args.from.0 name c.args.count (g.W.World.files c.args.world.now);
   log = λ tells. log_pass_none c.args.from.0 c.args.count (g.W.World.log c.args.world.now);
@@ -51,7 +51,7 @@ returns-in_err-write_all-clause-log g c = λ tells.
 
 pub loop-left-preserved : goal.loop-left-preserved
 loop-left-preserved g c = record {
-  later = omega arith;
+  calm = c.in_ok-write_all.ensures.cause.calm (ok_unfailed _) ∙ c.in_ok-given.ensures.count.calm (ok_unfailed _) ∙ c.loop-left.invariant.calm;
   live = c.write_all.ensures.live ∙ c.read.ensures.live ∙ c.loop-left.invariant.live;
   files = λ tells name has.
       let here = subst (λ (live : List Open). Contains live (open_as Reading c.args.from name)) (sym c.loop-left.invariant.live) has in

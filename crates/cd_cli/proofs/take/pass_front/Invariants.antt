@@ -1,4 +1,4 @@
-use Rattle.std.proofs.Common.{◌≡◌, ◌≤◌, ℕ, List, IsTrue, take}
+use Rattle.std.proofs.Common.{◌≡◌, ℕ, List, IsTrue, take}
 use Rattle.std.specs.Prelude.{Contains}
 use Rattle.cd_world.specs.declared.event.Use.TheVariants.{Reading}
 use Rattle.cd_world.specs.Live.{open_as}
@@ -10,7 +10,7 @@ use Rattle.cd_cli.proofs.take.pass_front.Given as goal
 
 abbrev pub invariant-loop-left : goal.invariant-loop-left
 invariant-loop-left g l = record {
-  later : g.W.World.faults l.initial.world ≤ g.W.World.faults l.world;
+  calm : g.W.World.faults l.world ≡ g.W.World.faults l.initial.world;
   live : g.W.World.live l.world ≡ g.W.World.live l.initial.world;
   files : IsTrue g.W.World.tells_files → (name : List ℕ) → Contains (g.W.World.live l.initial.world) (open_as Reading l.from name)
       → Passing l.from.0 name l.count (take l.left (left_at l.from.0 name (g.W.World.files l.world))) (g.W.World.files l.initial.world) (g.W.World.files l.world);

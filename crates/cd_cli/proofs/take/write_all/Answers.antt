@@ -2,13 +2,13 @@ use Rattle.std.proofs.Common.{true, [], List, ℕ, length, length-take, length-d
 use Rattle.std.proofs.lemmas.List.{drop_all}
 use Rattle.std.proofs.lemmas.Result.{IfOk-from_err}
 use Rattle.cd_world.specs.Files.{with_output}
-use Rattle.cd_cli.proofs.WriteSteps.{LogsOutput, front_more, files_none, files_more, writes_whole, writes_refused, log_none, log_wrote, log_refused, is_quiet, quiet_unless_failed, logs_front}
+use Rattle.cd_cli.proofs.WriteSteps.{ok_unfailed, LogsOutput, front_more, files_none, files_more, writes_whole, writes_refused, log_none, log_wrote, log_refused, is_quiet, quiet_unless_failed, logs_front}
 use Rattle.cd_cli.proofs.take.write_all.Goals as goal
 
 pub loop-done-init : goal.loop-done-init
 loop-done-init g c = record {
   within = omega arith;
-  later = omega arith;
+  calm = refl;
   live = refl;
   files = λ tells. files_none (g.W.World.files c.args.world.now);
   log = λ tells. log_none (g.W.World.log c.args.world.now);
@@ -18,7 +18,7 @@ pub loop-done-preserved : goal.loop-done-preserved
 loop-done-preserved g c =
     let more = front_more c.args.bytes.now c.loop-done.done c.in_ok-count.count in record {
       within = omega (arith, simp (length-take, length-drop) at c.in_ok-count.ensures.within.1);
-      later = omega arith;
+      calm = c.in_ok-count.ensures.count.calm (ok_unfailed _) ∙ c.loop-done.invariant.calm;
       live = c.write.ensures.live ∙ c.loop-done.invariant.live;
       files = λ tells. files_more _ _ _ _ _ (c.loop-done.invariant.files tells) (c.in_ok-count.ensures.output tells refl) ∙ ap (λ (b : List ℕ). with_output b (g.W.World.files c.args.world.now)) more;
       log = λ tells. subst (λ (b : List ℕ). LogsOutput true b (g.W.World.log c.args.world.now) (g.W.World.log c.write.new.self)) more

@@ -6,7 +6,7 @@ use Rattle.cd_cli.proofs.take.write_all.Given as goal
 abbrev pub invariant-loop-done : goal.invariant-loop-done
 invariant-loop-done g l = record {
   within : l.done ≤ length l.bytes;
-  later : g.W.World.faults l.initial.world ≤ g.W.World.faults l.world;
+  calm : g.W.World.faults l.world ≡ g.W.World.faults l.initial.world;
   live : g.W.World.live l.world ≡ g.W.World.live l.initial.world;
   files : IsTrue g.W.World.tells_files → g.W.World.files l.world ≡ with_output (take l.done l.bytes) (g.W.World.files l.initial.world);
   log : IsTrue g.W.World.tells_log → LogsOutput true (take l.done l.bytes) (g.W.World.log l.initial.world) (g.W.World.log l.world);

@@ -1,0 +1,65 @@
+//! Runs the cases of its data, and prints each with the answers that it got.
+#![tactic(auto)]
+
+mod commands;
+mod driver;
+mod error;
+mod notation;
+mod texts;
+mod words;
+
+use anyhow::Context;
+use error::CaseError;
+use std::alloc::Global;
+use std::fs;
+use std::rt::Files;
+
+/// The tables of cases, each a file of the data.
+#[derive(Clone, Copy)]
+enum Table {
+    Texts,
+    Words,
+    Commands,
+}
+
+impl Table {
+    fn file(self) -> &'static str {
+        match self {
+            Table::Texts => "texts",
+            Table::Words => "words",
+            Table::Commands => "commands",
+        }
+    }
+
+    /// Adds the lines of the answer to a case.
+    fn answer(self, alloc: Global, case: &str, lines: &mut String) -> Result<(), CaseError> {
+        match self {
+            Table::Texts => texts::answer(alloc, case, lines),
+            Table::Words => words::answer(alloc, case, lines),
+            Table::Commands => commands::answer(alloc, case, lines),
+        }
+    }
+}
+
+fn print_case<R: Print>(rt: &R, alloc: Global, table: Table, case: &str) -> anyhow::Result<()> {
+    let mut lines = String::new(alloc);
+    table
+        .answer(alloc, case, &mut lines)
+        .context(format_args!("{case}"))?;
+    println!(rt; "{case}\n{lines}")?;
+    Ok(())
+}
+
+fn print_table<R: Print + Files + Alloc<A = Global>>(rt: &R, table: Table) -> anyhow::Result<()> {
+    let data = fs::read_to_string(rt, table.file())?;
+    for case in data.as_str().trim_end().split("\n\n") {
+        print_case(rt, rt.alloc(), table, case)?;
+    }
+    Ok(())
+}
+
+fn main(rt: HostRuntime) -> anyhow::Result<()> {
+    print_table(&rt, Table::Texts)?;
+    print_table(&rt, Table::Words)?;
+    print_table(&rt, Table::Commands)
+}

@@ -1,0 +1,166 @@
+// What a sign makes of the innermost bracket.
+ghost use Rattle.std.specs.Prelude.{◌≡◌, IfOk};
+ghost use Rattle.cd_parser.specs.Machine as spec;
+
+use crate::heads::{let_go, with_last};
+use crate::state::{Block, Exit, Frame};
+use crate::words::number_of;
+use cd_elem::{Boxed, NoMemory, Pipe, PipeList, Section, Sign, Zip};
+use std::alloc::Global;
+
+fn boxed(alloc: Global, pipe: Pipe) -> Result<Boxed<Pipe>, NoMemory>
+    ensures { IfOk result (λ it. it ≡ pipe) }
+{
+    match Boxed::new(alloc, pipe) {
+        Ok(it) => Ok(it),
+        Err(pipe) => Err(let_go(pipe)),
+    }
+}
+
+pub fn both_boxed(
+    alloc: Global,
+    first: Pipe,
+    second: Pipe,
+) -> Result<(Boxed<Pipe>, Boxed<Pipe>), NoMemory>
+    ensures { IfOk result (λ both. (both.0 ≡ first) × (both.1 ≡ second)) }
+{
+    match boxed(alloc, first) {
+        Ok(first) => match boxed(alloc, second) {
+            Ok(second) => Ok((first, second)),
+            Err(NoMemory) => Err(let_go(first)),
+        },
+        Err(NoMemory) => Err(let_go(second)),
+    }
+}
+
+fn block_pipe(alloc: Global, block: Block, pipe: Pipe) -> Result<Pipe, NoMemory>
+    ensures { IfOk result (λ form. form ≡ spec.block_pipe block pipe) }
+{
+    let body = match boxed(alloc, pipe) {
+        Ok(body) => body,
+        Err(NoMemory) => return Err(let_go(block)),
+    };
+    match block {
+        Block::Counts(Section::Exactly, count) => Ok(Pipe::Exactly(number_of(count), body)),
+        Block::Counts(Section::ExactlyE, count) => Ok(Pipe::ExactlyE(number_of(count), body)),
+        Block::LineE => Ok(Pipe::LineE(body)),
+        Block::Mark(name) => Ok(Pipe::Mark(name, body)),
+    }
+}
+
+fn leaves_parens(pipe: Pipe, sign: Sign) -> Option<Exit>
+    ensures { result ≡ spec.left Frame.Parens pipe sign }
+{
+    match sign {
+        Sign::CloseParen => Some(Exit::Closes(pipe)),
+        _ => {
+            drop(pipe);
+            None
+        }
+    }
+}
+
+fn leaves_braces(pipes: PipeList, pipe: Pipe, sign: Sign) -> Result<Option<Exit>, NoMemory>
+    ensures { IfOk result (λ exit. exit ≡ spec.left (Frame.Braces pipes) pipe sign) }
+{
+    match sign {
+        Sign::Semicolon => {
+            let pipes = with_last(pipes, pipe)?;
+            Ok(Some(Exit::Stays(Frame::Braces(pipes))))
+        }
+        Sign::CloseBrace => {
+            let pipes = with_last(pipes, pipe)?;
+            Ok(Some(Exit::Closes(Pipe::Sequence(pipes))))
+        }
+        _ => {
+            drop((pipes, pipe));
+            Ok(None)
+        }
+    }
+}
+
+fn leaves_block(
+    alloc: Global,
+    block: Block,
+    pipe: Pipe,
+    sign: Sign,
+) -> Result<Option<Exit>, NoMemory>
+    ensures { IfOk result (λ exit. exit ≡ spec.left (Frame.Block block) pipe sign) }
+{
+    match sign {
+        Sign::CloseBrace => {
+            let form = block_pipe(alloc, block, pipe)?;
+            Ok(Some(Exit::Closes(form)))
+        }
+        _ => {
+            drop((block, pipe));
+            Ok(None)
+        }
+    }
+}
+
+fn leaves_tee(alloc: Global, pipe: Pipe, sign: Sign) -> Result<Option<Exit>, NoMemory>
+    ensures { IfOk result (λ exit. exit ≡ spec.left Frame.Tee pipe sign) }
+{
+    match sign {
+        Sign::CloseParen => {
+            let body = boxed(alloc, pipe)?;
+            Ok(Some(Exit::Closes(Pipe::Tee(body))))
+        }
+        _ => {
+            drop(pipe);
+            Ok(None)
+        }
+    }
+}
+
+fn leaves_first(zip: Zip, pipe: Pipe, sign: Sign) -> Option<Exit>
+    ensures { result ≡ spec.left (Frame.ZipFirst zip) pipe sign }
+{
+    match sign {
+        Sign::Comma => Some(Exit::Stays(Frame::ZipSecond(zip, pipe))),
+        _ => {
+            drop(pipe);
+            None
+        }
+    }
+}
+
+fn zip_left(
+    alloc: Global,
+    zip: Zip,
+    first: Pipe,
+    second: Pipe,
+    sign: Sign,
+) -> Result<Option<Exit>, NoMemory>
+    ensures { IfOk result (λ exit. exit ≡ spec.zip_left zip first second sign) }
+{
+    match (zip, sign) {
+        (Zip::Source, Sign::Comma) => Ok(Some(Exit::Asks(first, second))),
+        (Zip::Sink, Sign::CloseParen) => {
+            let (first, second) = both_boxed(alloc, first, second)?;
+            Ok(Some(Exit::Closes(Pipe::ZipSink(first, second))))
+        }
+        (Zip::Conduit, Sign::CloseParen) => {
+            let (first, second) = both_boxed(alloc, first, second)?;
+            Ok(Some(Exit::Closes(Pipe::ZipConduit(first, second))))
+        }
+        _ => {
+            drop((first, second));
+            Ok(None)
+        }
+    }
+}
+
+pub fn left(alloc: Global, frame: Frame, pipe: Pipe, sign: Sign) -> Result<Option<Exit>, NoMemory>
+    ensures { IfOk result (λ exit. exit ≡ spec.left frame pipe sign) }
+{
+    match frame {
+        Frame::Parens => Ok(leaves_parens(pipe, sign)),
+        Frame::Braces(pipes) => leaves_braces(pipes, pipe, sign),
+        Frame::Block(block) => leaves_block(alloc, block, pipe, sign),
+        Frame::Tee => leaves_tee(alloc, pipe, sign),
+        Frame::ZipFirst(zip) => Ok(leaves_first(zip, pipe, sign)),
+        Frame::ZipSecond(zip, first) => zip_left(alloc, zip, first, pipe, sign),
+    }
+}

@@ -1,0 +1,11 @@
+//! Tests of public calls: what no clause says of them, and what no data can ask.
+#![tactic(auto)]
+
+#[cfg(test)]
+mod back;
+#[cfg(test)]
+mod tokens;
+#[cfg(test)]
+mod values;
+#[cfg(test)]
+mod world;
