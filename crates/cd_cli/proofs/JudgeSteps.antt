@@ -3,7 +3,7 @@ use Rattle.std.proofs.Common.{◌≡◌, ◌⊎◌, inl, inr, ◌≤◌, ◌<◌
 use Rattle.std.specs.Prelude.{IsUtf8, IsErrAnd}
 use Rattle.std.specs.Str.{IsValidUpTo}
 use Rattle.cd_elem.specs.declared.script.Stmt.{Stmt}
-use Rattle.cd_meaning.specs.Refusals.{IsText}
+use Rattle.cd_grammar.specs.Refusals.{IsText}
 use Rattle.cd_script.specs.declared.refusal.ScriptRefusal.{ScriptRefusal}
 use Rattle.cd_script.specs.declared.refusal.ScriptRefusal.TheVariants.{Syntax, Limit, NoMemory}
 use Rattle.cd_script.specs.Answers.{Parses, Gives}

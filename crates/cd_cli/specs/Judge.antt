@@ -3,7 +3,7 @@ use Rattle.std.specs.Prelude.{◌≡◌, ◌≤◌, ◌<◌, ◌⊎◌, ℕ, Lis
 use Rattle.std.specs.Str.{IsValidUpTo}
 use Rattle.cd_elem.specs.declared.script.Stmt.{Stmt}
 use Rattle.cd_elem.specs.declared.token.LimitKind.{LimitKind}
-use Rattle.cd_meaning.specs.Refusals.{IsText, IsSyntaxAt, IsLimitAt}
+use Rattle.cd_grammar.specs.Refusals.{IsText, IsSyntaxAt, IsLimitAt}
 use Rattle.cd_cli.specs.declared.cause.Cause.{Cause}
 use Rattle.cd_cli.specs.declared.cause.Cause.TheVariants.{ScriptLimit, ScriptText, Syntax, Limit, NoMemory}
 

@@ -1,7 +1,7 @@
 // The command, from its words on.
 ghost use Rattle.std.specs.Prelude.{◌≡◌, List, IsTrue, map};
 ghost use Rattle.std.specs.String.{string_bytes};
-ghost use Rattle.cd_meaning.specs.Canonical.{IsTreeWithin};
+ghost use Rattle.cd_grammar.specs.Canonical.{IsTreeWithin};
 ghost use Rattle.cd_cli.specs.Cause.{HasOrigin, status_of};
 ghost use Rattle.cd_cli.specs.Words.{script_of};
 ghost use Rattle.cd_cli.specs.Command.{Does, RunsTree, ShowsTree, SendsFor, SendsTree, SendsText, Judges, Logs, ReadsAndJudges, Calls, Called, Sends, SendsScript, Answers, Sent, Completes};

@@ -1,6 +1,6 @@
 // Judging the bytes of a script.
 ghost use Rattle.std.specs.Prelude.{IfOk};
-ghost use Rattle.cd_meaning.specs.Canonical.{IsTreeWithin};
+ghost use Rattle.cd_grammar.specs.Canonical.{IsTreeWithin};
 ghost use Rattle.cd_cli.specs.Judge.{Judged};
 
 use crate::cause::Cause;

@@ -1,7 +1,8 @@
 -- The literal that is found is the one that ends first, by the definition of literals.
 use Rattle.std.proofs.Common.{◌≡◌, ℕ, zero, suc, ◌+◌, ◌≤◌, ◌<◌, ◌==◌, ◌*◌, nat_lt, Bool, true, false, ◌&&◌, if◌then◌else◌, List, [], ◌∷◌, length, take, Option, Some, None, refl, ap, sym, ◌∙◌, arith, add-one, encode_utf8}
 use lib.Utf8.{scalar}
-use Rattle.cd_meaning.specs.Literals.{hex_value, short_escape, in_front, no_more, short_or, digit_or, inside, escaped, braced, digits}
+use Rattle.cd_elem.specs.Base16.{hex_value}
+use Rattle.cd_grammar.specs.Literals.{short_escape, in_front, no_more, short_or, digit_or, inside, escaped, braced, digits}
 use Rattle.cd_lex.specs.declared.literal.Reading.{Reading}
 use Rattle.cd_lex.specs.declared.literal.Reading.TheVariants.{Plain, Escape, Unicode, Digits}
 use Rattle.cd_lex.specs.declared.literal.Read.{Read}

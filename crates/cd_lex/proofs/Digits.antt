@@ -4,7 +4,7 @@ use Rattle.std.specs.List.{fold}
 use Rattle.std.proofs.lemmas.List.{take-append-drop}
 use Rattle.std.proofs.lemmas.List.Sums.{fold-append, fold_more}
 use Rattle.std.proofs.lemmas.Bool.{le-ltb}
-use Rattle.cd_meaning.specs.Tokens.{value, number}
+use Rattle.cd_grammar.specs.Tokens.{value, number}
 
 grows : (ds : List ℕ) (n : ℕ) → n ≤ fold (λ n d. 10 * n + (d - 48)) n ds
 grows [] n = omega arith

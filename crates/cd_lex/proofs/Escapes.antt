@@ -9,8 +9,8 @@ use Rattle.std.specs.Str.{IsUtf8}
 use Rattle.std.proofs.lemmas.Str.{encode_ascii, encodes-chars}
 use Rattle.std.proofs.lemmas.Grind.{flat_map-append}
 use lib.Utf8.{encodes}
-use Rattle.cd_meaning.specs.Spelling.{escaped, by_digits}
-use Rattle.cd_meaning.specs.Base.{hex_digit, hex_digits}
+use Rattle.cd_grammar.specs.Spelling.{escaped, by_digits}
+use Rattle.cd_elem.specs.Base16.{hex_digit, hex_digits}
 use Rattle.cd_lex.proofs.Utf8.{AllHigh, high_encode, differs}
 
 -- no short escape

@@ -2,7 +2,7 @@
 use Rattle.std.proofs.Common.{◌≡◌, ℕ, ◌+◌, ◌≤◌, ◌<◌, Bool, true, false, List, length, drop, get_or, refl, ap, add-one}
 use Rattle.std.proofs.Math.Seq.{drop-cons}
 use Rattle.std.proofs.lemmas.List.{drop_all}
-use Rattle.cd_meaning.specs.Lexemes.{gap, in_gap, comment_on}
+use Rattle.cd_grammar.specs.Lexemes.{gap, in_gap, comment_on}
 
 pub gap-more : (b : Bool) (cs : List ℕ) (i : ℕ) → i < length cs → in_gap b (get_or cs i 0) ≡ true → gap b (drop i cs) ≡ 1 + gap (comment_on b (get_or cs i 0)) (drop (i + 1) cs)
 gap-more b cs i h e = rw (drop-cons cs i 0, add-one, e) refl

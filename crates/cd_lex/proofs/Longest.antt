@@ -8,9 +8,9 @@ use Rattle.cd_elem.specs.declared.token.Token.{Token}
 use Rattle.cd_elem.specs.declared.token.Token.TheVariants as token
 use Rattle.cd_elem.specs.declared.token.Sign.{Sign}
 use Rattle.cd_elem.specs.declared.token.Sign.TheVariants as sign
-use Rattle.cd_meaning.specs.Literals.{inside}
-use Rattle.cd_meaning.specs.Reserved.{reserved}
-use Rattle.cd_meaning.specs.Tokens as x
+use Rattle.cd_grammar.specs.Literals.{inside}
+use Rattle.cd_grammar.specs.Reserved.{reserved}
+use Rattle.cd_grammar.specs.Tokens as x
 use Rattle.cd_lex.specs.Quotes.{found_from, plain, text_found, text_of}
 use Rattle.cd_lex.proofs.Closing.{ScanOk, inside_ok}
 use Rattle.cd_lex.specs.Scanner as s

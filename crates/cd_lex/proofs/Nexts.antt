@@ -2,8 +2,8 @@
 use Rattle.std.proofs.Common.{◌≡◌, ℕ, zero, suc, ◌+◌, ◌-◌, ◌≤◌, ◌<◌, Bool, true, false, List, length, take, drop, Some, refl, ap, sym, ◌∙◌, subst, arith, length-drop}
 use Rattle.std.proofs.lemmas.List.{take_all}
 use Rattle.cd_elem.specs.declared.token.Token.{Token}
-use Rattle.cd_meaning.specs.Tokens.{IsLongest, whole_token}
-use Rattle.cd_meaning.specs.Lexemes.{IsNext, is_glued, begins_digit, gap}
+use Rattle.cd_grammar.specs.Tokens.{IsLongest, whole_token}
+use Rattle.cd_grammar.specs.Lexemes.{IsNext, is_glued, begins_digit, gap}
 
 -- a slice from a place on
 pub tail-is : (xs : List ℕ) (at : ℕ) → take (length xs - at) (drop at xs) ≡ drop at xs

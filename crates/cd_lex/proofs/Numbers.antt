@@ -8,7 +8,7 @@ use Rattle.std.proofs.lemmas.Fmt.{decimal_digit, digits_decimal, digits_value-de
 use Rattle.std.proofs.lemmas.Str.Parse.{FoldsDigits, IsDigitsTest, IsNumeralModel, numerals_by_fold}
 use Rattle.std.specs.Int.{IsInRange}
 use Rattle.cd_elem.specs.declared.token.Token.TheVariants as token
-use Rattle.cd_meaning.specs.Tokens.{value, whole_token}
+use Rattle.cd_grammar.specs.Tokens.{value, whole_token}
 use Rattle.cd_lex.proofs.Utf8.{both, differs}
 use Rattle.cd_lex.proofs.SpelledWords.{IsWritten}
 

@@ -6,10 +6,10 @@ use Rattle.cd_elem.specs.declared.token.Sign.{Sign}
 use Rattle.cd_elem.specs.declared.token.Sign.TheVariants as sign
 use Rattle.cd_elem.specs.declared.token.Token.{Token}
 use Rattle.cd_elem.specs.declared.token.Token.TheVariants as token
-use Rattle.cd_meaning.specs.CanonicalText.{is_call, is_closing, is_opening, is_paren, space, spelled_behind}
-use Rattle.cd_meaning.specs.Lexemes.{is_glued, is_zero}
-use Rattle.cd_meaning.specs.Spelling.{spelled}
-use Rattle.cd_meaning.specs.Tokens.{bar_sign}
+use Rattle.cd_grammar.specs.CanonicalText.{is_call, is_closing, is_opening, is_paren, space, spelled_behind}
+use Rattle.cd_grammar.specs.Lexemes.{is_glued, is_zero}
+use Rattle.cd_grammar.specs.Spelling.{spelled}
+use Rattle.cd_grammar.specs.Tokens.{bar_sign}
 
 abbrev pub no_sign : Option Sign → Bool
 no_sign None = true

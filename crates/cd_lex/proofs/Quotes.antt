@@ -6,10 +6,10 @@ use Rattle.std.proofs.lemmas.Bool.Decides.{nat_tests}
 use Rattle.std.proofs.lemmas.Str.{encode_ascii}
 use lib.Utf8.{low_scalar}
 use Rattle.cd_elem.specs.declared.token.Token.TheVariants as token
-use Rattle.cd_meaning.specs.Base.{hex_digit, hex_digits}
-use Rattle.cd_meaning.specs.Literals.{inside, in_front, hex_value, digits}
-use Rattle.cd_meaning.specs.Spelling.{by_digits, escaped}
-use Rattle.cd_meaning.specs.Tokens.{quoted}
+use Rattle.cd_elem.specs.Base16.{hex_digit, hex_digits, hex_value}
+use Rattle.cd_grammar.specs.Literals.{inside, in_front, digits}
+use Rattle.cd_grammar.specs.Spelling.{by_digits, escaped}
+use Rattle.cd_grammar.specs.Tokens.{quoted}
 use Rattle.cd_lex.proofs.Escapes.{IsLong, long}
 use Rattle.cd_lex.proofs.Utf8.{differs}
 use Rattle.cd_lex.proofs.SpelledWords.{IsWritten}

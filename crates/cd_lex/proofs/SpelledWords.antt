@@ -36,8 +36,8 @@ use Rattle.cd_elem.specs.declared.token.Sign.{Sign}
 use Rattle.cd_elem.specs.declared.token.Sign.TheVariants as sign
 use Rattle.cd_elem.specs.declared.token.Token.{Token}
 use Rattle.cd_elem.specs.declared.token.Token.TheVariants as token
-use Rattle.cd_meaning.specs.Spelling.{spelled}
-use Rattle.cd_meaning.specs.Tokens.{whole_token}
+use Rattle.cd_grammar.specs.Spelling.{spelled}
+use Rattle.cd_grammar.specs.Tokens.{whole_token}
 
 -- a token that is read as it is written
 pub record IsWritten (t : Token) : Type 0 where

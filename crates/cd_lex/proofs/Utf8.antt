@@ -6,7 +6,8 @@ use Rattle.std.proofs.lemmas.Bool.Decides.{nat_tests}
 use Rattle.std.proofs.lemmas.Str.{IsUtf8-nil, IsUtf8-append, IsUtf8-encode, encode_ascii, length-encode, len_utf8_bounds}
 use lib.Utf8.{encode, encodes, scalar, scalars, low_scalar}
 use lib.Utf8.{next as after_first}
-use Rattle.cd_meaning.specs.Literals.{hex_value, short_escape}
+use Rattle.cd_elem.specs.Base16.{hex_value}
+use Rattle.cd_grammar.specs.Literals.{short_escape}
 use Rattle.cd_lex.specs.declared.literal.Reading.{Reading}
 use Rattle.cd_lex.specs.declared.literal.Reading.TheVariants.{Plain, Escape, Unicode, Digits}
 use Rattle.cd_lex.specs.declared.literal.Read.{Read}

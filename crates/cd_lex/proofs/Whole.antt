@@ -9,9 +9,9 @@ use Rattle.cd_elem.specs.declared.token.Sign.{Sign}
 use Rattle.cd_elem.specs.declared.token.Sign.TheVariants as sign
 use Rattle.cd_elem.specs.declared.token.Token.{Token}
 use Rattle.cd_elem.specs.declared.token.Token.TheVariants as token
-use Rattle.cd_meaning.specs.Literals.{inside, in_front, no_more}
-use Rattle.cd_meaning.specs.Reserved.{reserved}
-use Rattle.cd_meaning.specs.Tokens as x
+use Rattle.cd_grammar.specs.Literals.{inside, in_front, no_more}
+use Rattle.cd_grammar.specs.Reserved.{reserved}
+use Rattle.cd_grammar.specs.Tokens as x
 use Rattle.cd_lex.specs.declared.literal.Reading.{Reading}
 use Rattle.cd_lex.specs.declared.literal.Reading.TheVariants.{Plain}
 use Rattle.cd_lex.specs.declared.literal.Read.{Read}

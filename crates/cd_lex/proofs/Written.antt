@@ -9,12 +9,12 @@ use Rattle.cd_elem.specs.declared.script.Stmt.{Stmt}
 use Rattle.cd_elem.specs.declared.token.Lexeme.{Lexeme}
 use Rattle.cd_elem.specs.declared.token.Token.{Token}
 use Rattle.cd_elem.specs.declared.token.Token.TheVariants as token
-use Rattle.cd_meaning.specs.Canonical.{canonical, statement_tokens}
-use Rattle.cd_meaning.specs.CanonicalText.{canonical_text, is_call, is_closing, is_opening, is_paren, space, spaced, spelled_behind}
-use Rattle.cd_meaning.specs.Lexemes.{IsNext, Lexes, Stops, Tokenizes, comment_on, gap, in_gap, is_glued, is_zero, next_at}
-use Rattle.cd_meaning.specs.Refusals.{tokens}
-use Rattle.cd_meaning.specs.Spelling.{spelled}
-use Rattle.cd_meaning.specs.Tokens.{IsLongest, one_sign, whole_token}
+use Rattle.cd_grammar.specs.Canonical.{canonical, statement_tokens}
+use Rattle.cd_grammar.specs.CanonicalText.{canonical_text, is_call, is_closing, is_opening, is_paren, space, spaced, spelled_behind}
+use Rattle.cd_grammar.specs.Lexemes.{IsNext, Lexes, Stops, Tokenizes, comment_on, gap, in_gap, is_glued, is_zero, next_at}
+use Rattle.cd_grammar.specs.Refusals.{tokens}
+use Rattle.cd_grammar.specs.Spelling.{spelled}
+use Rattle.cd_grammar.specs.Tokens.{IsLongest, one_sign, whole_token}
 use Rattle.cd_lex.proofs.Numbers.{number_is}
 use Rattle.cd_lex.proofs.Parting.{behind_parts, ends_before, unglued}
 use Rattle.cd_lex.proofs.Quotes.{text_is}

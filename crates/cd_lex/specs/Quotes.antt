@@ -3,7 +3,8 @@ use Rattle.std.specs.Prelude.{ℕ, ◌+◌, ◌*◌, ◌<◌, ◌≤◌, ◌==�
 use lib.Utf8.{scalar}
 use Rattle.cd_elem.specs.declared.token.Token.{Token}
 use Rattle.cd_elem.specs.declared.token.Token.TheVariants as token
-use Rattle.cd_meaning.specs.Literals.{hex_value, short_escape}
+use Rattle.cd_elem.specs.Base16.{hex_value}
+use Rattle.cd_grammar.specs.Literals.{short_escape}
 use Rattle.cd_lex.specs.declared.literal.Reading.{Reading}
 use Rattle.cd_lex.specs.declared.literal.Reading.TheVariants.{Plain, Escape, Unicode, Digits}
 use Rattle.cd_lex.specs.declared.literal.Read.{Read}

@@ -8,8 +8,8 @@ use Rattle.cd_elem.specs.declared.token.Sign.{Sign}
 use Rattle.cd_elem.specs.declared.token.Sign.TheVariants as sign
 use Rattle.cd_elem.specs.declared.token.Token.{Token}
 use Rattle.cd_elem.specs.declared.token.Token.TheVariants as token
-use Rattle.cd_meaning.specs.Reserved.{reserved}
-use Rattle.cd_meaning.specs.Tokens.{one_sign, bar_sign, named, number, IsLongest, HasNoToken}
+use Rattle.cd_grammar.specs.Reserved.{reserved}
+use Rattle.cd_grammar.specs.Tokens.{one_sign, bar_sign, named, number, IsLongest, HasNoToken}
 use Rattle.cd_lex.specs.Quotes.{text_found}
 
 abbrev pub Found : Type 0

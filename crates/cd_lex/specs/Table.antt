@@ -2,7 +2,7 @@
 use Rattle.std.specs.Prelude.{ℕ, List, map}
 use Rattle.std.specs.Borrow.{Bor}
 use Rattle.cd_elem.specs.declared.token.Keyword.{Keyword}
-use Rattle.cd_meaning.specs.Reserved.{Spelled}
+use Rattle.cd_grammar.specs.Reserved.{Spelled}
 
 abbrev pub entries : List (Bor (List ℕ) × Keyword) → List Spelled
 entries words = map (λ w. (w.0.now, w.1)) words

@@ -1,6 +1,6 @@
 // The tokens of a text, one behind another.
 ghost use Rattle.std.specs.Prelude.{◌≡◌, ◌≤◌, false, length, IfOk};
-ghost use Rattle.cd_meaning.specs.Lexemes as spec;
+ghost use Rattle.cd_grammar.specs.Lexemes as spec;
 ghost use Rattle.std.specs.Str.{IsUtf8};
 ghost use Rattle.cd_lex.specs.Looking.{Looks};
 

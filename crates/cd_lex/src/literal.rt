@@ -2,7 +2,7 @@
 ghost use Rattle.std.specs.Prelude.{◌≡◌, ◌<◌, ◌≤◌, ◌+◌, ◌*◌, ◌++◌, ◌∷◌, [], length, encode_utf8, IfOk};
 ghost use Rattle.std.specs.Str.{IsUtf8};
 ghost use Rattle.cd_lex.specs.Quotes as quotes;
-ghost use Rattle.cd_meaning.specs.Literals as spec;
+ghost use Rattle.cd_grammar.specs.Literals as spec;
 
 use cd_elem::{ByteList, Items, Literal, NoMemory, Token};
 use std::alloc::Global;

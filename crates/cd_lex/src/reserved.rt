@@ -1,7 +1,7 @@
 // The reserved words.
 ghost use Rattle.std.specs.Prelude.{◌≡◌};
 ghost use Rattle.cd_lex.specs.Table.{entries};
-ghost use Rattle.cd_meaning.specs.Reserved as spec;
+ghost use Rattle.cd_grammar.specs.Reserved as spec;
 
 use cd_elem::{
     ClassedWord, CountedWord, EndMap, EndTest, FileWord, Keyword, ListWord, LiteralWord, NumberMap,

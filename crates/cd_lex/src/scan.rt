@@ -4,8 +4,8 @@ ghost use Rattle.std.specs.Char.{is_ascii_alphanumeric, is_ascii_digit};
 ghost use Rattle.std.specs.List.{prefix_len};
 ghost use Rattle.std.specs.Str.{IsAscii};
 ghost use Rattle.cd_lex.specs.Scanner as scanner;
-ghost use Rattle.cd_meaning.specs.Reserved as words;
-ghost use Rattle.cd_meaning.specs.Tokens as spec;
+ghost use Rattle.cd_grammar.specs.Reserved as words;
+ghost use Rattle.cd_grammar.specs.Tokens as spec;
 
 use crate::literal::literal;
 use crate::reserved::reserved;

@@ -2,8 +2,8 @@
 ghost use Rattle.std.specs.Prelude.{◌≡◌, ◌++◌, OnOk, false, string_bytes, decimal, encode_utf8};
 ghost use Rattle.std.specs.Fmt.{digits};
 ghost use Rattle.std.specs.List.{flat_map};
-ghost use Rattle.cd_meaning.specs.CanonicalText as layout;
-ghost use Rattle.cd_meaning.specs.Spelling as spec;
+ghost use Rattle.cd_grammar.specs.CanonicalText as layout;
+ghost use Rattle.cd_grammar.specs.Spelling as spec;
 
 use crate::words::spelled_word;
 use cd_elem::{Join, Keyword, NoMemory, Sign, Token};

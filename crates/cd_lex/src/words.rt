@@ -1,6 +1,6 @@
 // How the reserved words are written.
 ghost use Rattle.std.specs.Prelude.{◌≡◌};
-ghost use Rattle.cd_meaning.specs.Spelling as spec;
+ghost use Rattle.cd_grammar.specs.Spelling as spec;
 
 use cd_elem::{
     ClassedWord, CountedWord, EndMap, EndTest, FileWord, Keyword, ListWord, LiteralWord, NumberMap,

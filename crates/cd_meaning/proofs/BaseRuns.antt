@@ -3,7 +3,8 @@ use Rattle.std.proofs.Common.{◌≡◌, ℕ, suc, ◌+◌, ◌==◌, List, [], 
 use Rattle.cd_meaning.specs.Stream.{Item, Value, Stopped, bad_hex, bad_base64, Stop, End, Ended, Halted, Ending, Done, Halts, Act}
 use Rattle.cd_meaning.specs.Run.{stamp, Run, acts_at, past}
 use Rattle.cd_meaning.specs.Words.{number, elements_out, as_count}
-use Rattle.cd_meaning.specs.Base.{group_at, group_rest, hex_digits, hex_encode, hex_value, hex_byte, hex_from, hex_decode, padding, base64_one, base64_two, base64_three, padded_at, base64_from, base64_encode, base64_group, base64_groups, base64_decode}
+use Rattle.cd_elem.specs.Base16.{hex_digits, hex_value}
+use Rattle.cd_meaning.specs.Base.{group_at, group_rest, hex_encode, hex_byte, hex_from, hex_decode, padding, base64_one, base64_two, base64_three, padded_at, base64_from, base64_encode, base64_group, base64_groups, base64_decode}
 use Rattle.cd_meaning.specs.Laws.{IsRun}
 use Rattle.cd_meaning.specs.Scan.{Reply, Go, Fail, Scan, replied, closed, scan}
 use Rattle.cd_meaning.proofs.WordRuns.{is_run_as, never, past_closed, each_is_run, each_scan, each_is_scan}

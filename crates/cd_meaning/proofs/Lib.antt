@@ -31,7 +31,6 @@ pub mod ReturnMoves
 pub mod Rising
 pub mod ScanMoves
 pub mod Scanned
-mod ScriptRows
 pub mod SequenceMoves
 pub mod SequenceRuns
 pub mod SourceRuns

@@ -1,5 +1,6 @@
 -- Base16 and base64, by RFC 4648, sections 8 and 4.
 use Rattle.std.specs.Prelude.{ℕ, suc, ◌+◌, ◌-◌, ◌*◌, ◌/◌, ◌%◌, ◌==◌, nat_lt, Bool, false, if◌then◌else◌, List, [], ◌∷◌, Option, Some, None}
+use Rattle.cd_elem.specs.Base16.{hex_digits, hex_value}
 use Rattle.cd_meaning.specs.Stream.{Item, Value, Stopped, bad_hex, bad_base64, Stop, End, Ended, Halted, Halts}
 use Rattle.cd_meaning.specs.Run.{stamp, Run, Ends, Component, acts_at, past}
 use Rattle.cd_meaning.specs.Words.{each_to_end, number, elements_out, as_count}
@@ -16,25 +17,8 @@ group_rest n fault (Halted h) = past n (Halted h) Value.Unit
 
 -- ---- base16
 
--- a digit in lower case
-abbrev pub hex_digit : ℕ → ℕ
-hex_digit n = if nat_lt n 10 then 48 + n else 87 + n
-
-abbrev pub hex_digits : ℕ → List ℕ
-hex_digits b = hex_digit (b / 16) ∷ hex_digit (b % 16) ∷ []
-
 abbrev pub hex_encode : Component
 hex_encode = each_to_end (λ x. elements_out (hex_digits (number x)))
-
--- the value of a digit of either case
-abbrev pub hex_value : ℕ → Option ℕ
-hex_value c =
-    if nat_lt c 48 then None
-    else (if nat_lt c 58 then Some (c - 48)
-    else (if nat_lt c 65 then None
-    else (if nat_lt c 71 then Some (c - 55)
-    else (if nat_lt c 97 then None
-    else (if nat_lt c 103 then Some (c - 87) else None)))))
 
 abbrev pub hex_byte : Option ℕ → Option ℕ → Option (List ℕ)
 hex_byte (Some a) (Some b) = Some ((16 * a + b) ∷ [])

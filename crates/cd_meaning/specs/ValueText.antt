@@ -1,6 +1,6 @@
 -- The texts of values.
 use Rattle.std.specs.Prelude.{ℕ, ◌==◌, nat_lt, ◌||◌, true, false, if◌then◌else◌, List, [], ◌∷◌, ◌++◌, codes, encode_utf8, decimal}
-use Rattle.cd_meaning.specs.Base.{hex_digit, hex_digits}
+use Rattle.cd_elem.specs.Base16.{hex_digit, hex_digits}
 use Rattle.cd_meaning.specs.Stream.{Value, MaybeValue, Absent, Present, Values, NoValues, Another}
 
 abbrev char_text : ℕ → List ℕ

@@ -27,8 +27,8 @@ use Rattle.cd_parser.specs.declared.state.Head.TheVariants as head
 use Rattle.cd_parser.specs.declared.state.Need.TheVariants as need
 use Rattle.cd_parser.specs.declared.state.Place.TheVariants as place
 use Rattle.cd_parser.specs.declared.state.State.{State}
-use Rattle.cd_meaning.specs.Grammar as g
-use Rattle.cd_meaning.specs.WordTrees as t
+use Rattle.cd_grammar.specs.Grammar as g
+use Rattle.cd_grammar.specs.WordTrees as t
 use Rattle.cd_parser.specs.Machine.{within, closed, start, next, run, joined_by, owned, turned_by, same_join, is_scalar, split_at}
 
 abbrev pub chain_of : g.Whole → Chain

@@ -31,7 +31,7 @@ use Rattle.cd_parser.specs.declared.state.Place.{Place}
 use Rattle.cd_parser.specs.declared.state.Place.TheVariants as place
 use Rattle.cd_parser.specs.declared.state.State.{State}
 use Rattle.std.specs.Str.{chars}
-use Rattle.cd_meaning.specs.Grammar.{one_scalar}
+use Rattle.cd_grammar.specs.Grammar.{one_scalar}
 use Rattle.cd_parser.specs.Machine.{within, next, step, turned_by, is_scalar, split_at}
 use Rattle.cd_parser.proofs.Complete.{done}
 

@@ -34,7 +34,7 @@ use Rattle.cd_parser.specs.declared.state.Need.{Need}
 use Rattle.cd_parser.specs.declared.state.Need.TheVariants as need
 use Rattle.cd_parser.specs.declared.state.Place.TheVariants as place
 use Rattle.cd_parser.specs.declared.state.State.{State}
-use Rattle.cd_meaning.specs.Grammar as g
+use Rattle.cd_grammar.specs.Grammar as g
 use Rattle.cd_parser.specs.Machine as m
 use Rattle.cd_parser.proofs.Complete.{done, block_of}
 

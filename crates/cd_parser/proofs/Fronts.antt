@@ -4,7 +4,7 @@ use Rattle.std.specs.List.{fold}
 use Rattle.std.proofs.lemmas.List.Sums.{fold-append}
 use Rattle.cd_elem.specs.declared.script.Stmt.{Stmt}
 use Rattle.cd_elem.specs.declared.token.Token.{Token}
-use Rattle.cd_meaning.specs.Grammar as g
+use Rattle.cd_grammar.specs.Grammar as g
 use Rattle.cd_parser.specs.declared.state.State.{State}
 use Rattle.cd_parser.specs.Machine.{next, run, start}
 use Rattle.cd_parser.proofs.Complete.{over_script, done}

@@ -11,7 +11,7 @@ use Rattle.cd_elem.specs.declared.token.Keyword.TheVariants as keyword
 use Rattle.cd_elem.specs.declared.token.Sign.TheVariants as sign
 use Rattle.cd_elem.specs.declared.token.Token.TheVariants as token
 use Rattle.cd_elem.specs.declared.script.Join.TheVariants as join
-use Rattle.cd_meaning.specs.Grammar.{IsFront, operator}
+use Rattle.cd_grammar.specs.Grammar.{IsFront, operator}
 use Rattle.cd_parser.proofs.Fronts.{no_front}
 
 -- `run passE | passE |&`

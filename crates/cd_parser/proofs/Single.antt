@@ -4,7 +4,7 @@ use Rattle.std.specs.Prelude.{slice_get}
 use Rattle.std.specs.Str.{chars, IsUtf8}
 use Rattle.std.specs.Char.{encode_utf8}
 use Rattle.std.proofs.lemmas.Str.{chars_past_char}
-use Rattle.cd_meaning.specs.Grammar.{alone, one_scalar}
+use Rattle.cd_grammar.specs.Grammar.{alone, one_scalar}
 
 none_behind : (c : ℕ) (cs : List ℕ) → slice_get cs 0 ≡ None → Some c ≡ alone (c ∷ cs)
 none_behind c [] e = refl

@@ -25,7 +25,7 @@ use Rattle.cd_parser.specs.declared.state.State.{State}
 use Rattle.cd_parser.specs.declared.state.Turn.{Turn}
 use Rattle.cd_parser.specs.declared.state.Exit.{Exit}
 use Rattle.cd_parser.specs.declared.state.Exit.TheVariants as exits
-use Rattle.cd_meaning.specs.Grammar as g
+use Rattle.cd_grammar.specs.Grammar as g
 use Rattle.cd_parser.specs.Machine as m
 use Rattle.cd_parser.specs.Machine.{next, run, start, same_join}
 use Rattle.cd_parser.proofs.Complete.{done, block_of}

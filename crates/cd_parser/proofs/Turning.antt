@@ -11,7 +11,7 @@ use Rattle.cd_elem.specs.declared.token.Token.{Token}
 use Rattle.cd_elem.specs.declared.token.Token.TheVariants as token
 use Rattle.cd_parser.specs.declared.state.Turn.{Turn}
 use Rattle.cd_parser.specs.declared.state.Turn.TheVariants as turns
-use Rattle.cd_meaning.specs.Grammar as g
+use Rattle.cd_grammar.specs.Grammar as g
 use Rattle.cd_parser.specs.Machine as m
 use Rattle.cd_parser.proofs.Forms.{FrameForm, Parens, Braces, Blocked, InTee, ZipFirst, HeadForm, frame_tree, frame_tokens, head_tree, head_tokens}
 use Rattle.cd_parser.proofs.Forms as f

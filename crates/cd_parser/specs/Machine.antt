@@ -26,8 +26,8 @@ use Rattle.cd_elem.specs.declared.token.Sign.{Sign}
 use Rattle.cd_elem.specs.declared.token.Sign.TheVariants as sign
 use Rattle.cd_elem.specs.declared.token.Token.{Token}
 use Rattle.cd_elem.specs.declared.token.Token.TheVariants as token
-use Rattle.cd_meaning.specs.WordTrees as tree
-use Rattle.cd_meaning.specs.Grammar.{one_scalar, section_tree}
+use Rattle.cd_grammar.specs.WordTrees as tree
+use Rattle.cd_grammar.specs.Grammar.{one_scalar, section_tree}
 use Rattle.cd_parser.specs.declared.state.Owner.{Owner}
 use Rattle.cd_parser.specs.declared.state.Owner.TheVariants as owner
 use Rattle.cd_parser.specs.declared.state.Chain.{Chain}

@@ -1,7 +1,7 @@
 // The trees of words, classes, tests and maps by their tokens.
 ghost use Rattle.std.specs.Prelude.{◌≡◌};
-ghost use Rattle.cd_meaning.specs.Grammar.{one_scalar};
-ghost use Rattle.cd_meaning.specs.WordTrees as spec;
+ghost use Rattle.cd_grammar.specs.Grammar.{one_scalar};
+ghost use Rattle.cd_grammar.specs.WordTrees as spec;
 
 use cd_elem::{
     BaseWord, ByteMap, Class, ClassName, ClassedWord, CountedWord, ElemWord, EndMap, EndTest,

@@ -5,12 +5,12 @@ use Rattle.cd_elem.specs.declared.script.Stmt.{Stmt}
 use Rattle.cd_elem.specs.declared.token.Token.{Token}
 use Rattle.cd_elem.specs.declared.token.Lexeme.{Lexeme}
 use Rattle.cd_script.specs.declared.refusal.ScriptRefusal.TheVariants.{Syntax, Limit, NoMemory}
-use Rattle.cd_meaning.specs.Grammar.{IsScript}
-use Rattle.cd_meaning.specs.Limits.{IsWithinLimits}
-use Rattle.cd_meaning.specs.Refusals.{tokens, IsText}
+use Rattle.cd_grammar.specs.Grammar.{IsScript}
+use Rattle.cd_grammar.specs.Limits.{IsWithinLimits}
+use Rattle.cd_grammar.specs.Refusals.{tokens, IsText}
 use Rattle.cd_script.specs.Answers.{Answer, Answers, Parses, Gives}
-use Rattle.cd_meaning.specs.Tokens.{IsLongest, HasNoToken, whole_token}
-use Rattle.cd_meaning.specs.Lexemes.{Lexes, Tokenizes, IsNext, Stops, is_zero}
+use Rattle.cd_grammar.specs.Tokens.{IsLongest, HasNoToken, whole_token}
+use Rattle.cd_grammar.specs.Lexemes.{Lexes, Tokenizes, IsNext, Stops, is_zero}
 
 apart : {A : Type 0} {x : A} → None ≡ Some x → ⊥
 apart e = cc

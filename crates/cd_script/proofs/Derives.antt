@@ -15,9 +15,9 @@ use Rattle.cd_elem.specs.declared.token.Keyword.TheVariants as keyword
 use Rattle.cd_elem.specs.declared.token.Sign.TheVariants as sign
 use Rattle.cd_elem.specs.declared.token.Token.{Token}
 use Rattle.cd_elem.specs.declared.token.Token.TheVariants as token
-use Rattle.cd_meaning.specs.Canonical.{Piece, piece, piece_step, is_proper, wrapped, canonical, statement_tokens, is_proper_statement, is_file, is_name}
-use Rattle.cd_meaning.specs.CanonicalWords.{behind_each}
-use Rattle.cd_meaning.specs.Grammar as g
+use Rattle.cd_grammar.specs.Canonical.{Piece, piece, piece_step, is_proper, wrapped, canonical, statement_tokens, is_proper_statement, is_file, is_name}
+use Rattle.cd_grammar.specs.CanonicalWords.{behind_each}
+use Rattle.cd_grammar.specs.Grammar as g
 use Rattle.cd_script.specs.Ranges as ranges
 use Rattle.cd_script.specs.Ranges.{is_in_range}
 use Rattle.cd_script.proofs.Pieces.{piece-roll, proper-roll, range-roll}

@@ -7,7 +7,7 @@ use Rattle.cd_elem.specs.declared.token.Sign.{Sign}
 use Rattle.cd_elem.specs.declared.token.Sign.TheVariants as sign
 use Rattle.cd_elem.specs.declared.token.Token.{Token}
 use Rattle.cd_elem.specs.declared.token.Token.TheVariants as token
-use Rattle.cd_meaning.specs.Limits.{Bounds, bounds_behind, brackets_with, sign_brackets, is_outside}
+use Rattle.cd_grammar.specs.Limits.{Bounds, bounds_behind, brackets_with, sign_brackets, is_outside}
 use Rattle.cd_script.proofs.LimitWalk.{Passes, Fits, brackets_behind, bounds_from, fewer_passes, fits_front, fits_behind, fits_append}
 
 -- a token for another one, behind fewer tokens and open brackets; neither is a bracket

@@ -20,11 +20,11 @@ use Rattle.cd_elem.specs.declared.token.Sign.TheVariants as sign
 use Rattle.cd_elem.specs.declared.token.Token.{Token}
 use Rattle.cd_elem.specs.declared.token.Token.TheVariants as token
 use Rattle.cd_elem.specs.declared.word.Word.{Word}
-use Rattle.cd_meaning.specs.Limits.{Bounds, bounds_behind, every_number, lengths, IsWithinLimits}
-use Rattle.cd_meaning.specs.WordTrees as tree
-use Rattle.cd_meaning.specs.Grammar as g
-use Rattle.cd_meaning.specs.CanonicalWords.{word_tokens, separated}
-use Rattle.cd_meaning.specs.Canonical.{Piece, piece, piece_step, simple, wrapped, statement_tokens, canonical}
+use Rattle.cd_grammar.specs.Limits.{Bounds, bounds_behind, every_number, lengths, IsWithinLimits}
+use Rattle.cd_grammar.specs.WordTrees as tree
+use Rattle.cd_grammar.specs.Grammar as g
+use Rattle.cd_grammar.specs.CanonicalWords.{word_tokens, separated}
+use Rattle.cd_grammar.specs.Canonical.{Piece, piece, piece_step, simple, wrapped, statement_tokens, canonical}
 use Rattle.cd_script.proofs.LimitWalk.{walks, within}
 use Rattle.cd_script.proofs.Lighter.{Under, Anywhere, same_as, word, text, named, operator, comma, semicolon, equals, none, more, one, both, parens, braces, inside, bracketed, unwrapped}
 use Rattle.cd_script.proofs.LighterWords.{number, behind_word, no_end, separated_more, word_form}

@@ -33,11 +33,11 @@ use Rattle.cd_elem.specs.declared.token.Token.{Token}
 use Rattle.cd_elem.specs.declared.token.Token.TheVariants as token
 use Rattle.cd_elem.specs.declared.word.Class.{Class}
 use Rattle.cd_elem.specs.declared.word.PieceTest.{PieceTest}
-use Rattle.cd_meaning.specs.Limits.{Bounds, bounds_behind, every_number, bytes, keyword_bounds, is_outside}
-use Rattle.cd_meaning.specs.WordTrees as tree
-use Rattle.cd_meaning.specs.Grammar as g
-use Rattle.cd_meaning.specs.CanonicalWords as canonical
-use Rattle.cd_meaning.specs.CanonicalWords.{behind_each, separated, texts_tokens}
+use Rattle.cd_grammar.specs.Limits.{Bounds, bounds_behind, every_number, bytes, keyword_bounds, is_outside}
+use Rattle.cd_grammar.specs.WordTrees as tree
+use Rattle.cd_grammar.specs.Grammar as g
+use Rattle.cd_grammar.specs.CanonicalWords as canonical
+use Rattle.cd_grammar.specs.CanonicalWords.{behind_each, separated, texts_tokens}
 use Rattle.cd_script.proofs.LimitWalk.{Passes, fewer_passes}
 use Rattle.cd_script.proofs.Lighter.{Under, Anywhere, same_as, word, text, comma, none, more, one, both, squares, bracketed}
 

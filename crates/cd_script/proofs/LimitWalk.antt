@@ -9,7 +9,7 @@ use Rattle.cd_elem.specs.declared.token.Token.{Token}
 use Rattle.cd_elem.specs.declared.token.Token.TheVariants as token
 use Rattle.cd_elem.specs.declared.token.LimitKind.{LimitKind}
 use Rattle.cd_elem.specs.declared.token.LimitKind.TheVariants.{Tokens, Depth, Literal, Number}
-use Rattle.cd_meaning.specs.Limits.{Bounds, every_number, bounds_behind, brackets_with, sign_brackets, is_opening, is_too_long, is_outside, limit_of, limit_here, IsWithinLimits}
+use Rattle.cd_grammar.specs.Limits.{Bounds, every_number, bounds_behind, brackets_with, sign_brackets, is_opening, is_too_long, is_outside, limit_of, limit_here, IsWithinLimits}
 
 -- this token passes no limit behind so many tokens and open brackets
 pub record Passes (count opened : ℕ) (b : Bounds) (t : Token) : Type 0 where

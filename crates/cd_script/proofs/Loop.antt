@@ -14,10 +14,10 @@ use Rattle.cd_parser.specs.declared.state.Place.TheVariants as place
 use Rattle.cd_script.specs.declared.reader.Reader.{Reader}
 use Rattle.cd_script.specs.declared.refusal.ScriptRefusal.{ScriptRefusal}
 use Rattle.cd_script.specs.declared.refusal.ScriptRefusal.TheVariants.{Syntax, Limit, NoMemory}
-use Rattle.cd_meaning.specs.Grammar.{IsScript}
+use Rattle.cd_grammar.specs.Grammar.{IsScript}
 use Rattle.cd_parser.specs.Machine.{next, run, start, step}
-use Rattle.cd_meaning.specs.Limits.{limit_of, limit_behind, limit_at, limit_here, IsWithinLimits, brackets_with, bounds_behind, open_brackets, bounds_after, every_number}
-use Rattle.cd_meaning.specs.Refusals.{tokens, PassesTo}
+use Rattle.cd_grammar.specs.Limits.{limit_of, limit_behind, limit_at, limit_here, IsWithinLimits, brackets_with, bounds_behind, open_brackets, bounds_after, every_number}
+use Rattle.cd_grammar.specs.Refusals.{tokens, PassesTo}
 use Rattle.cd_script.specs.Answers.{Answer, Answers, Gives}
 use Rattle.cd_script.specs.Reading.{IsBehind, Advances, Reads, bounds_of, ending, ending_at}
 use Rattle.cd_parser.proofs.Stands.{is_script}

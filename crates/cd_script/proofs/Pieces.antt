@@ -14,9 +14,9 @@ use Rattle.cd_elem.specs.declared.token.Sign.TheVariants as sign
 use Rattle.cd_elem.specs.declared.token.Token.{Token}
 use Rattle.cd_elem.specs.declared.token.Token.TheVariants as token
 use Rattle.cd_elem.specs.declared.word.Word.{Word}
-use Rattle.cd_meaning.specs.Canonical.{Piece, wrapped, braced, in_parens, pair, piece, piece_step, is_proper, proper_step}
-use Rattle.cd_meaning.specs.CanonicalWords.{separated, word_tokens}
-use Rattle.cd_meaning.specs.Grammar.{operator}
+use Rattle.cd_grammar.specs.Canonical.{Piece, wrapped, braced, in_parens, pair, piece, piece_step, is_proper, proper_step}
+use Rattle.cd_grammar.specs.CanonicalWords.{separated, word_tokens}
+use Rattle.cd_grammar.specs.Grammar.{operator}
 use Rattle.cd_script.specs.Ranges.{is_in_range, range_step, word as word_in_range}
 
 pub piece-roll : (x : Pipe-F Pipe) → piece (roll-Pipe x) ≡ piece_step (map-Pipe Pipe Piece piece x)

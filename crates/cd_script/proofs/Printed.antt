@@ -4,12 +4,12 @@ use Rattle.std.proofs.lemmas.List.{take_all}
 use Rattle.std.specs.List.{list_all}
 use Rattle.cd_elem.specs.declared.script.Stmt.{Stmt}
 use Rattle.cd_elem.specs.declared.token.Token.{Token}
-use Rattle.cd_meaning.specs.Canonical.{IsTreeWithin}
-use Rattle.cd_meaning.specs.CanonicalText.{canonical_text}
-use Rattle.cd_meaning.specs.Grammar.{IsScript}
-use Rattle.cd_meaning.specs.Lexemes.{Tokenizes}
-use Rattle.cd_meaning.specs.Limits.{IsWithinLimits}
-use Rattle.cd_meaning.specs.Refusals.{IsText}
+use Rattle.cd_grammar.specs.Canonical.{IsTreeWithin}
+use Rattle.cd_grammar.specs.CanonicalText.{canonical_text}
+use Rattle.cd_grammar.specs.Grammar.{IsScript}
+use Rattle.cd_grammar.specs.Lexemes.{Tokenizes}
+use Rattle.cd_grammar.specs.Limits.{IsWithinLimits}
+use Rattle.cd_grammar.specs.Refusals.{IsText}
 use Rattle.cd_lex.proofs.Written.{tokenizes_canonical}
 use Rattle.cd_script.specs.Ranges as ranges
 use Rattle.cd_script.proofs.Derives.{canonical_is_script}

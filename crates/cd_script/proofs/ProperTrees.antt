@@ -28,9 +28,9 @@ use Rattle.cd_elem.specs.declared.token.Section.TheVariants as section
 use Rattle.cd_elem.specs.declared.token.Token.{Token}
 use Rattle.cd_elem.specs.declared.word.Class.{Class}
 use Rattle.cd_elem.specs.declared.word.PieceTest.{PieceTest}
-use Rattle.cd_meaning.specs.WordTrees as tree
-use Rattle.cd_meaning.specs.Grammar as g
-use Rattle.cd_meaning.specs.Canonical.{is_proper, proper_step, is_proper_word, is_proper_statement, is_name, has_one, has_two}
+use Rattle.cd_grammar.specs.WordTrees as tree
+use Rattle.cd_grammar.specs.Grammar as g
+use Rattle.cd_grammar.specs.Canonical.{is_proper, proper_step, is_proper_word, is_proper_statement, is_name, has_one, has_two}
 use Rattle.cd_script.proofs.LighterTrees.{some_mapped, some_parts, some_wholes}
 use Rattle.cd_script.proofs.TextNames.{has_name, HaveNames, both_true}
 

@@ -8,12 +8,12 @@ use Rattle.cd_elem.specs.declared.token.Sign.{Sign}
 use Rattle.cd_elem.specs.declared.token.Token.{Token}
 use Rattle.cd_elem.specs.declared.token.Token.TheVariants as token
 use Rattle.cd_elem.specs.declared.token.Lexeme.{Lexeme}
-use Rattle.cd_meaning.specs.Canonical.{is_name, names}
-use Rattle.cd_meaning.specs.Lexemes.{Lexes, is_zero}
-use Rattle.cd_meaning.specs.Literals.{inside}
-use Rattle.cd_meaning.specs.Refusals.{tokens}
-use Rattle.cd_meaning.specs.Reserved.{reserved}
-use Rattle.cd_meaning.specs.Tokens.{whole_token, whole_sign, named, number, quoted, signed, is_empty}
+use Rattle.cd_grammar.specs.Canonical.{is_name, names}
+use Rattle.cd_grammar.specs.Lexemes.{Lexes, is_zero}
+use Rattle.cd_grammar.specs.Literals.{inside}
+use Rattle.cd_grammar.specs.Refusals.{tokens}
+use Rattle.cd_grammar.specs.Reserved.{reserved}
+use Rattle.cd_grammar.specs.Tokens.{whole_token, whole_sign, named, number, quoted, signed, is_empty}
 
 abbrev pub has_name : Token → Bool
 has_name (token.Named n) = is_name n

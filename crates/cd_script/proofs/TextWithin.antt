@@ -1,8 +1,8 @@
 -- The tree of a text is within the limits.
 use Rattle.std.proofs.Common.{ℕ, false, true, List, Ok, Err, IfOk}
 use Rattle.cd_elem.specs.declared.script.Stmt.{Stmt}
-use Rattle.cd_meaning.specs.Canonical.{IsTreeWithin}
-use Rattle.cd_meaning.specs.Refusals.{tokens, IsText}
+use Rattle.cd_grammar.specs.Canonical.{IsTreeWithin}
+use Rattle.cd_grammar.specs.Refusals.{tokens, IsText}
 use Rattle.cd_script.specs.Answers.{Answer, Parses}
 use Rattle.cd_script.proofs.LighterTrees.{canonical_within}
 use Rattle.cd_script.proofs.ProperTrees.{is_proper_script}

@@ -46,10 +46,10 @@ use Rattle.cd_elem.specs.declared.word.ByteMap.{ByteMap}
 use Rattle.cd_elem.specs.declared.word.ByteMap.TheVariants as byte_map
 use Rattle.cd_elem.specs.declared.word.PieceMap.{PieceMap}
 use Rattle.cd_elem.specs.declared.word.PieceMap.TheVariants as piece_map
-use Rattle.cd_meaning.specs.Canonical.{is_file, is_proper_word}
-use Rattle.cd_meaning.specs.CanonicalWords as spec
-use Rattle.cd_meaning.specs.Grammar as g
-use Rattle.cd_meaning.specs.WordTrees as trees
+use Rattle.cd_grammar.specs.Canonical.{is_file, is_proper_word}
+use Rattle.cd_grammar.specs.CanonicalWords as spec
+use Rattle.cd_grammar.specs.Grammar as g
+use Rattle.cd_grammar.specs.WordTrees as trees
 use Rattle.cd_script.specs.Ranges as ranges
 
 -- a form of the grammar with these tokens, which stands for this tree

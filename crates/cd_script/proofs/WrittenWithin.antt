@@ -46,13 +46,13 @@ use Rattle.cd_elem.specs.declared.word.ByteMap.{ByteMap}
 use Rattle.cd_elem.specs.declared.word.ByteMap.TheVariants as byte_map
 use Rattle.cd_elem.specs.declared.word.PieceMap.{PieceMap}
 use Rattle.cd_elem.specs.declared.word.PieceMap.TheVariants as piece_map
-use Rattle.cd_meaning.specs.Canonical.{Piece, piece, piece_step, wrapped, pair, ended, statement_tokens, canonical, is_proper, is_proper_statement, is_file, is_name, names, IsTreeWithin}
-use Rattle.cd_meaning.specs.CanonicalWords.{class_name_tokens, class_tokens, test_name_tokens, test_tokens, element_map_tokens, piece_map_tokens, behind_each, separated, texts_tokens, list_tokens, elem_tokens, piece_tokens, split_tokens, text_tokens, base_tokens, source_tokens, sink_tokens, word_tokens}
-use Rattle.cd_meaning.specs.Grammar.{not_tokens, operator}
-use Rattle.cd_meaning.specs.Limits.{Bounds, every_number, bounds_behind, brackets_with, counted_bounds, keyword_bounds, is_outside}
-use Rattle.cd_meaning.specs.Literals.{inside}
-use Rattle.cd_meaning.specs.Reserved.{reserved}
-use Rattle.cd_meaning.specs.Tokens.{whole_token, whole_sign, named, number, quoted, signed, is_empty}
+use Rattle.cd_grammar.specs.Canonical.{Piece, piece, piece_step, wrapped, pair, ended, statement_tokens, canonical, is_proper, is_proper_statement, is_file, is_name, names, IsTreeWithin}
+use Rattle.cd_grammar.specs.CanonicalWords.{class_name_tokens, class_tokens, test_name_tokens, test_tokens, element_map_tokens, piece_map_tokens, behind_each, separated, texts_tokens, list_tokens, elem_tokens, piece_tokens, split_tokens, text_tokens, base_tokens, source_tokens, sink_tokens, word_tokens}
+use Rattle.cd_grammar.specs.Grammar.{not_tokens, operator}
+use Rattle.cd_grammar.specs.Limits.{Bounds, every_number, bounds_behind, brackets_with, counted_bounds, keyword_bounds, is_outside}
+use Rattle.cd_grammar.specs.Literals.{inside}
+use Rattle.cd_grammar.specs.Reserved.{reserved}
+use Rattle.cd_grammar.specs.Tokens.{whole_token, whole_sign, named, number, quoted, signed, is_empty}
 use Rattle.cd_lex.proofs.Utf8.{both}
 use Rattle.cd_lex.proofs.Written.{CanBeWritten, AllWritten, written}
 use Rattle.cd_script.proofs.LimitWalk.{Fits, walks}

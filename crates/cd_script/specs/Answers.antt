@@ -2,9 +2,9 @@
 use Rattle.std.specs.Prelude.{◌≡◌, ℕ, Bool, true, List, Result, Ok, Err, ◌⊎◌}
 use Rattle.cd_elem.specs.declared.script.Stmt.{Stmt}
 use Rattle.cd_elem.specs.declared.token.Lexeme.{Lexeme}
-use Rattle.cd_meaning.specs.Grammar.{IsScript}
-use Rattle.cd_meaning.specs.Limits.{IsWithinLimits}
-use Rattle.cd_meaning.specs.Refusals.{tokens, Refuses, EndsEarly, PassesLimit, IsText, IsSyntaxAt, IsLimitAt}
+use Rattle.cd_grammar.specs.Grammar.{IsScript}
+use Rattle.cd_grammar.specs.Limits.{IsWithinLimits}
+use Rattle.cd_grammar.specs.Refusals.{tokens, Refuses, EndsEarly, PassesLimit, IsText, IsSyntaxAt, IsLimitAt}
 use Rattle.cd_script.specs.declared.refusal.ScriptRefusal.{ScriptRefusal}
 use Rattle.cd_script.specs.declared.refusal.ScriptRefusal.TheVariants.{Syntax, Limit, NoMemory}
 

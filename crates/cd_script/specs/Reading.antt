@@ -4,9 +4,9 @@ use Rattle.cd_elem.specs.declared.script.Stmt.{Stmt}
 use Rattle.cd_elem.specs.declared.token.Token.{Token}
 use Rattle.cd_elem.specs.declared.token.Lexeme.{Lexeme}
 use Rattle.cd_elem.specs.declared.token.LimitKind.{LimitKind}
-use Rattle.cd_meaning.specs.Limits as limits
-use Rattle.cd_meaning.specs.Limits.{limit_of, limit_at, brackets_with, bounds_behind, open_brackets, bounds_after}
-use Rattle.cd_meaning.specs.Refusals.{tokens}
+use Rattle.cd_grammar.specs.Limits as limits
+use Rattle.cd_grammar.specs.Limits.{limit_of, limit_at, brackets_with, bounds_behind, open_brackets, bounds_after}
+use Rattle.cd_grammar.specs.Refusals.{tokens}
 use Rattle.cd_parser.specs.declared.state.State.{State}
 use Rattle.cd_parser.specs.declared.state.Place.{Place}
 use Rattle.cd_parser.specs.declared.state.Place.TheVariants as place

@@ -1,9 +1,9 @@
 // From trees to their canonical tokens.
 ghost use Rattle.std.specs.Prelude.{◌≡◌, ◌∷◌, ◌++◌, [], map, true, IfOk, OnOk};
 ghost use Rattle.std.specs.List.{list_all};
-ghost use Rattle.cd_meaning.specs.Canonical as spec;
-ghost use Rattle.cd_meaning.specs.CanonicalWords.{separated};
-ghost use Rattle.cd_meaning.specs.Grammar.{operator};
+ghost use Rattle.cd_grammar.specs.Canonical as spec;
+ghost use Rattle.cd_grammar.specs.CanonicalWords.{separated};
+ghost use Rattle.cd_grammar.specs.Grammar.{operator};
 ghost use Rattle.cd_script.specs.Ranges as ranges;
 
 use crate::canonical_words::{

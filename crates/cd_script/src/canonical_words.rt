@@ -1,7 +1,7 @@
 // From words to their canonical tokens.
 ghost use Rattle.std.specs.Prelude.{◌≡◌, ◌∷◌, ◌++◌, [], List, true, IfOk, OnOk, encode_utf8};
-ghost use Rattle.cd_meaning.specs.Grammar.{not_tokens};
-ghost use Rattle.cd_meaning.specs.CanonicalWords as spec;
+ghost use Rattle.cd_grammar.specs.Grammar.{not_tokens};
+ghost use Rattle.cd_grammar.specs.CanonicalWords as spec;
 ghost use Rattle.cd_script.specs.Ranges as ranges;
 
 use cd_elem::{

@@ -1,6 +1,6 @@
 // Limits on the tokens.
 ghost use Rattle.std.specs.Prelude.{◌≡◌, ◌≤◌, ◌+◌};
-ghost use Rattle.cd_meaning.specs.Limits as spec;
+ghost use Rattle.cd_grammar.specs.Limits as spec;
 ghost use Rattle.cd_script.specs.Reading.{bounds_of};
 
 use cd_elem::{CountedWord, Keyword, LimitKind, Sign, Token};

@@ -1,8 +1,8 @@
 // From a tree to its canonical text.
 ghost use Rattle.std.specs.Prelude.{◌≡◌, ◌++◌, true, IfOk, OnOk, string_bytes};
-ghost use Rattle.cd_meaning.specs.Canonical.{IsTreeWithin};
-ghost use Rattle.cd_meaning.specs.CanonicalText.{canonical_text, line};
-ghost use Rattle.cd_meaning.specs.Refusals.{IsText};
+ghost use Rattle.cd_grammar.specs.Canonical.{IsTreeWithin};
+ghost use Rattle.cd_grammar.specs.CanonicalText.{canonical_text, line};
+ghost use Rattle.cd_grammar.specs.Refusals.{IsText};
 ghost use Rattle.cd_script.specs.Ranges as ranges;
 
 use crate::canonical::statement_tokens;

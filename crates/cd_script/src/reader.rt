@@ -1,9 +1,9 @@
 // From tokens to the tree.
 ghost use Rattle.std.specs.Prelude.{◌≡◌, List, ◌+◌, ◌≤◌, IfOk, true};
 ghost use Rattle.cd_elem.specs.declared.script.Stmt.{Stmt};
-ghost use Rattle.cd_meaning.specs.Grammar.{IsScript};
-ghost use Rattle.cd_meaning.specs.Limits.{IsWithinLimits, every_number};
-ghost use Rattle.cd_meaning.specs.Refusals.{tokens};
+ghost use Rattle.cd_grammar.specs.Grammar.{IsScript};
+ghost use Rattle.cd_grammar.specs.Limits.{IsWithinLimits, every_number};
+ghost use Rattle.cd_grammar.specs.Refusals.{tokens};
 ghost use Rattle.cd_script.specs.Answers.{Answers, Gives};
 ghost use Rattle.cd_parser.specs.Machine.{start};
 ghost use Rattle.cd_script.specs.Reading.{Reads, bounds_of, ending, is_between};

@@ -1,8 +1,8 @@
 // From a text to its tree.
 ghost use Rattle.std.specs.Prelude.{◌≤◌, List, length, IfOk};
 ghost use Rattle.cd_elem.specs.declared.script.Stmt.{Stmt};
-ghost use Rattle.cd_meaning.specs.Canonical.{IsTreeWithin};
-ghost use Rattle.cd_meaning.specs.Refusals.{IsText};
+ghost use Rattle.cd_grammar.specs.Canonical.{IsTreeWithin};
+ghost use Rattle.cd_grammar.specs.Refusals.{IsText};
 ghost use Rattle.cd_script.specs.Answers.{Gives, Parses};
 
 use crate::reader::parse_tokens;

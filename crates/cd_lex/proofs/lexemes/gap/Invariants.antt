@@ -1,5 +1,5 @@
 use Rattle.std.proofs.Common.{◌≡◌, ◌+◌, drop, false}
-use Rattle.cd_meaning.specs.Lexemes.{gap}
+use Rattle.cd_grammar.specs.Lexemes.{gap}
 use Rattle.cd_lex.proofs.lexemes.gap.Given as goal
 
 abbrev pub invariant-loop-place : goal.invariant-loop-place

@@ -1,6 +1,6 @@
 use Rattle.std.proofs.Common.{ℕ, ◌++◌, false, List, [], append-nil, subst}
 use Rattle.cd_elem.specs.declared.token.Lexeme.{Lexeme}
-use Rattle.cd_meaning.specs.Lexemes.{Lexes}
+use Rattle.cd_grammar.specs.Lexemes.{Lexes}
 use Rattle.cd_lex.proofs.lexemes.lex.Goals as goal
 
 pub returns-in-Ok-Stop : goal.returns-in-Ok-Stop

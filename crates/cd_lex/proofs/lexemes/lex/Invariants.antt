@@ -1,6 +1,6 @@
 use Rattle.std.proofs.Common.{ℕ, ◌≤◌, ◌-◌, ◌++◌, Bool, false, List, length}
 use Rattle.cd_elem.specs.declared.token.Lexeme.{Lexeme}
-use Rattle.cd_meaning.specs.Lexemes.{Lexes}
+use Rattle.cd_grammar.specs.Lexemes.{Lexes}
 use Rattle.cd_lex.proofs.lexemes.lex.Given as goal
 
 abbrev pub invariant-tokens : goal.invariant-tokens

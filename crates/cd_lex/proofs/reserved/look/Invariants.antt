@@ -1,6 +1,6 @@
 use Rattle.std.proofs.Common.{◌≡◌, drop}
 use Rattle.cd_lex.specs.Table.{entries}
-use Rattle.cd_meaning.specs.Reserved as spec
+use Rattle.cd_grammar.specs.Reserved as spec
 use Rattle.cd_lex.proofs.reserved.look.Given as goal
 
 abbrev pub invariant-loop-word : goal.invariant-loop-word

@@ -1,5 +1,5 @@
 use Rattle.std.proofs.Common.{◌≡◌, ◌<◌, ◌^◌, take}
-use Rattle.cd_meaning.specs.Tokens.{value}
+use Rattle.cd_grammar.specs.Tokens.{value}
 use Rattle.cd_lex.proofs.scan.number.Given as goal
 
 abbrev pub invariant-loop-byte : goal.invariant-loop-byte

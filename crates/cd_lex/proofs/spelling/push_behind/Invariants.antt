@@ -1,5 +1,5 @@
 use Rattle.std.proofs.Common.{◌≡◌, ◌++◌, string_bytes, drop}
-use Rattle.cd_meaning.specs.CanonicalText.{spelled_behind}
+use Rattle.cd_grammar.specs.CanonicalText.{spelled_behind}
 use Rattle.cd_lex.proofs.spelling.push_behind.Given as goal
 
 abbrev pub invariant-loop-token : goal.invariant-loop-token

@@ -1,7 +1,7 @@
 use Rattle.std.proofs.Common.{ap, sym, ◌∙◌, ◌++◌, map-id, string_bytes, encode_utf8, flat_map}
 use Rattle.std.proofs.lemmas.Iterator.{YieldsList-from_chars}
 use Rattle.std.proofs.lemmas.Iterator.Consumers.{YieldsList-end}
-use Rattle.cd_meaning.specs.Spelling.{escaped}
+use Rattle.cd_grammar.specs.Spelling.{escaped}
 use Rattle.cd_lex.proofs.Escapes.{all_bytes}
 use Rattle.cd_lex.proofs.spelling.push_inside.Goals as goal
 

@@ -1,5 +1,5 @@
 use Rattle.std.proofs.Common.{◌≡◌, ◌++◌, string_bytes, encode_utf8, flat_map}
-use Rattle.cd_meaning.specs.Spelling.{escaped}
+use Rattle.cd_grammar.specs.Spelling.{escaped}
 use Rattle.cd_lex.proofs.spelling.push_inside.Given as goal
 
 abbrev pub invariant-loop-scalar : goal.invariant-loop-scalar

@@ -3,7 +3,7 @@ use Rattle.cd_elem.specs.declared.script.Pipe.{Pipe}
 use Rattle.cd_elem.specs.declared.token.Sign.TheVariants as sign
 use Rattle.cd_elem.specs.declared.token.Token.{Token}
 use Rattle.cd_elem.specs.declared.token.Token.TheVariants as token
-use Rattle.cd_meaning.specs.Canonical.{piece, wrapped}
+use Rattle.cd_grammar.specs.Canonical.{piece, wrapped}
 use Rattle.cd_script.proofs.Pieces.{wrapped-Chain, tokens-LineE, tokens-Mark, tokens-Tee, zip_source-behind, tokens-ZipSink, tokens-ZipConduit}
 use Rattle.cd_script.proofs.canonical.+canonical.Goals as goal
 

@@ -2,9 +2,9 @@ use Rattle.std.proofs.Common.{◌≡◌, ◌++◌, true, map, take}
 use Rattle.std.specs.List.{list_all}
 use Rattle.cd_elem.specs.declared.token.Sign.TheVariants as sign
 use Rattle.cd_elem.specs.declared.token.Token.TheVariants as token
-use Rattle.cd_meaning.specs.Canonical.{piece, wrapped}
-use Rattle.cd_meaning.specs.CanonicalWords.{separated}
-use Rattle.cd_meaning.specs.Grammar.{operator}
+use Rattle.cd_grammar.specs.Canonical.{piece, wrapped}
+use Rattle.cd_grammar.specs.CanonicalWords.{separated}
+use Rattle.cd_grammar.specs.Grammar.{operator}
 use Rattle.cd_script.specs.Ranges.{is_in_range}
 use Rattle.cd_script.proofs.canonical.+canonical.Given as goal
 

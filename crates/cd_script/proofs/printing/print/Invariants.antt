@@ -1,6 +1,6 @@
 use Rattle.std.proofs.Common.{◌≡◌, true, string_bytes, take}
 use Rattle.std.specs.List.{list_all}
-use Rattle.cd_meaning.specs.CanonicalText.{canonical_text}
+use Rattle.cd_grammar.specs.CanonicalText.{canonical_text}
 use Rattle.cd_script.specs.Ranges as ranges
 use Rattle.cd_script.proofs.printing.print.Given as goal
 

@@ -1,9 +1,9 @@
 use Rattle.std.proofs.Common.{true, ◌≡◌, List, subst}
 use Rattle.cd_elem.specs.declared.script.Stmt.{Stmt}
 use Rattle.cd_elem.specs.declared.token.Lexeme.{Lexeme}
-use Rattle.cd_meaning.specs.Grammar.{IsScript}
-use Rattle.cd_meaning.specs.Limits.{IsWithinLimits}
-use Rattle.cd_meaning.specs.Refusals.{tokens}
+use Rattle.cd_grammar.specs.Grammar.{IsScript}
+use Rattle.cd_grammar.specs.Limits.{IsWithinLimits}
+use Rattle.cd_grammar.specs.Refusals.{tokens}
 use Rattle.cd_script.specs.Answers.{Answers, Gives}
 use Rattle.cd_script.proofs.Alone.{gives, parses}
 use Rattle.cd_script.proofs.TextWithin.{parsed_is_within}

@@ -8,8 +8,8 @@ use Rattle.cd_elem.specs.declared.token.Sign.{Sign}
 use Rattle.cd_elem.specs.declared.token.Sign.TheVariants as sign
 use Rattle.cd_elem.specs.declared.token.Token.{Token}
 use Rattle.cd_elem.specs.declared.token.Token.TheVariants as token
-use Rattle.cd_meaning.specs.Literals.{inside}
-use Rattle.cd_meaning.specs.Reserved.{reserved}
+use Rattle.cd_grammar.specs.Literals.{inside}
+use Rattle.cd_grammar.specs.Reserved.{reserved}
 
 abbrev pub one_sign : ℕ → Option Sign
 one_sign c =

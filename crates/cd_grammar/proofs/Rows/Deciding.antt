@@ -6,11 +6,11 @@ use Rattle.std.proofs.lemmas.Bool.{cases_lt, leb-true}
 use Rattle.std.proofs.lemmas.List.{take_all}
 use Rattle.cd_elem.specs.declared.token.Lexeme.{Lexeme}
 use Rattle.cd_elem.specs.declared.token.Token.{Token}
-use Rattle.cd_meaning.specs.Tokens.{IsLongest, HasNoToken, whole_token}
-use Rattle.cd_meaning.specs.Lexemes.{IsNext, Stops, is_glued, next_at}
-use Rattle.cd_meaning.specs.Limits.{IsWithinLimits, limit_at, limit_here}
-use Rattle.cd_meaning.specs.Grammar.{IsFront}
-use Rattle.cd_meaning.specs.Refusals.{PassesTo}
+use Rattle.cd_grammar.specs.Tokens.{IsLongest, HasNoToken, whole_token}
+use Rattle.cd_grammar.specs.Lexemes.{IsNext, Stops, is_glued, next_at}
+use Rattle.cd_grammar.specs.Limits.{IsWithinLimits, limit_at, limit_here}
+use Rattle.cd_grammar.specs.Grammar.{IsFront}
+use Rattle.cd_grammar.specs.Refusals.{PassesTo}
 
 -- each of so many numbers, from 0
 abbrev pub each_below : ℕ → (ℕ → Bool) → Bool

@@ -22,10 +22,10 @@ use Rattle.cd_elem.specs.declared.word.SplitWord.TheVariants as split
 use Rattle.cd_elem.specs.declared.word.SourceWord.TheVariants as source
 use Rattle.cd_elem.specs.declared.word.SinkWord.TheVariants as sink
 use Rattle.cd_elem.specs.declared.word.ClassName.TheVariants as name
-use Rattle.cd_meaning.specs.Canonical.{Piece, piece, piece_step, statement_tokens, is_name, is_proper, is_proper_statement, is_proper_word, proper_step}
-use Rattle.cd_meaning.specs.Spelling.{quoted}
-use Rattle.cd_meaning.specs.CanonicalText.{line, spaced, canonical_text}
-use Rattle.cd_meaning.specs.Grammar.{operator}
+use Rattle.cd_grammar.specs.Canonical.{Piece, piece, piece_step, statement_tokens, is_name, is_proper, is_proper_statement, is_proper_word, proper_step}
+use Rattle.cd_grammar.specs.Spelling.{quoted}
+use Rattle.cd_grammar.specs.CanonicalText.{line, spaced, canonical_text}
+use Rattle.cd_grammar.specs.Grammar.{operator}
 
 abbrev run : Piece → List ℕ
 run p = spaced (token.Word keyword.Run ∷ p.tokens ++ token.Sign sign.Semicolon ∷ [])

@@ -4,9 +4,9 @@ use Rattle.cd_elem.specs.declared.script.Stmt.{Stmt}
 use Rattle.cd_elem.specs.declared.token.Token.{Token}
 use Rattle.cd_elem.specs.declared.token.Lexeme.{Lexeme}
 use Rattle.cd_elem.specs.declared.token.LimitKind.{LimitKind}
-use Rattle.cd_meaning.specs.Grammar.{IsScript, IsFront}
-use Rattle.cd_meaning.specs.Limits.{limit_at, IsWithinLimits}
-use Rattle.cd_meaning.specs.Lexemes.{Tokenizes}
+use Rattle.cd_grammar.specs.Grammar.{IsScript, IsFront}
+use Rattle.cd_grammar.specs.Limits.{limit_at, IsWithinLimits}
+use Rattle.cd_grammar.specs.Lexemes.{Tokenizes}
 
 abbrev pub tokens : List Lexeme → List Token
 tokens ls = map (λ l. l.token) ls

@@ -17,9 +17,10 @@ use Rattle.cd_elem.specs.declared.token.Keyword.TheVariants as keyword
 use Rattle.cd_elem.specs.declared.token.Sign.TheVariants as sign
 use Rattle.cd_elem.specs.declared.token.Token.{Token}
 use Rattle.cd_elem.specs.declared.token.Token.TheVariants as token
-use Rattle.cd_meaning.specs.Literals.{inside, hex_value}
-use Rattle.cd_meaning.specs.Reserved.{reserved}
-use Rattle.cd_meaning.specs.Tokens.{whole_token}
+use Rattle.cd_elem.specs.Base16.{hex_value}
+use Rattle.cd_grammar.specs.Literals.{inside}
+use Rattle.cd_grammar.specs.Reserved.{reserved}
+use Rattle.cd_grammar.specs.Tokens.{whole_token}
 
 -- signs
 plain_operator : whole_token (codes "|") ≡ Some (token.Sign (sign.Operator join.Plain))

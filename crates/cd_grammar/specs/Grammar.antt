@@ -35,7 +35,7 @@ use Rattle.cd_elem.specs.declared.token.Keyword.TheVariants as keyword
 use Rattle.cd_elem.specs.declared.token.Sign.TheVariants as sign
 use Rattle.cd_elem.specs.declared.token.Token.{Token}
 use Rattle.cd_elem.specs.declared.token.Token.TheVariants as token
-use Rattle.cd_meaning.specs.WordTrees as tree
+use Rattle.cd_grammar.specs.WordTrees as tree
 
 -- a NUM, or None past 2^64 - 1, which no tree within the limits has
 abbrev pub Numeral : Type 0

@@ -37,7 +37,7 @@ use Rattle.cd_elem.specs.declared.token.Sign.{Sign}
 use Rattle.cd_elem.specs.declared.token.Sign.TheVariants as sign
 use Rattle.cd_elem.specs.declared.token.Token.{Token}
 use Rattle.cd_elem.specs.declared.token.Token.TheVariants as token
-use Rattle.cd_meaning.specs.Base.{hex_digit, hex_digits}
+use Rattle.cd_elem.specs.Base16.{hex_digit, hex_digits}
 
 abbrev pub spelled_opening : Opening → List ℕ
 spelled_opening opening.Let = codes "let"

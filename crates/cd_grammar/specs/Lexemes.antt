@@ -4,7 +4,7 @@ use Rattle.std.specs.Char.{is_ascii_digit}
 use Rattle.cd_elem.specs.declared.token.Token.{Token}
 use Rattle.cd_elem.specs.declared.token.Token.TheVariants as token
 use Rattle.cd_elem.specs.declared.token.Lexeme.{Lexeme}
-use Rattle.cd_meaning.specs.Tokens.{IsLongest, HasNoToken}
+use Rattle.cd_grammar.specs.Tokens.{IsLongest, HasNoToken}
 
 abbrev pub is_blank : ℕ → Bool
 is_blank c = c == 32 || (c == 9 || (c == 13 || c == 10))

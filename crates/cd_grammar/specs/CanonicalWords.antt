@@ -43,7 +43,7 @@ use Rattle.cd_elem.specs.declared.word.ByteMap.{ByteMap}
 use Rattle.cd_elem.specs.declared.word.ByteMap.TheVariants as byte_map
 use Rattle.cd_elem.specs.declared.word.PieceMap.{PieceMap}
 use Rattle.cd_elem.specs.declared.word.PieceMap.TheVariants as piece_map
-use Rattle.cd_meaning.specs.Grammar.{not_tokens}
+use Rattle.cd_grammar.specs.Grammar.{not_tokens}
 
 abbrev alone : Keyword → List Token
 alone k = token.Word k ∷ []

@@ -2,7 +2,7 @@
 use Rattle.std.specs.Prelude.{◌≡◌, refl, true, false, [], ◌∷◌, map, Some, None, codes}
 use Rattle.cd_elem.specs.declared.token.Sign.TheVariants as sign
 use Rattle.cd_elem.specs.declared.token.Token.TheVariants as token
-use Rattle.cd_meaning.specs.Lexemes.{gap, is_blank, is_glued, is_zero, next_at}
+use Rattle.cd_grammar.specs.Lexemes.{gap, is_blank, is_glued, is_zero, next_at}
 
 -- ---- blanks and comments
 blanks : gap false (codes " \t\r\n x") ≡ 5

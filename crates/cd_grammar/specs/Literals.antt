@@ -1,14 +1,7 @@
 -- The values of literals.
 use Rattle.std.specs.Prelude.{ℕ, ◌+◌, ◌-◌, ◌*◌, ◌==◌, nat_lt, nat_le, ◌&&◌, if◌then◌else◌, List, [], ◌∷◌, ◌++◌, Option, Some, None, encode_utf8}
-use Rattle.std.specs.Char.{is_ascii_digit}
 use lib.Utf8.{scalar}
-
--- the value of a hexadecimal digit
-abbrev pub hex_value : ℕ → Option ℕ
-hex_value c =
-    if is_ascii_digit c then Some (c - 48)
-    else (if nat_le 97 c && nat_le c 102 then Some (c - 87)
-    else (if nat_le 65 c && nat_le c 70 then Some (c - 55) else None))
+use Rattle.cd_elem.specs.Base16.{hex_value}
 
 -- the byte that a short escape stands for
 abbrev pub short_escape : ℕ → Option ℕ

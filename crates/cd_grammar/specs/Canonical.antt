@@ -18,10 +18,10 @@ use Rattle.cd_elem.specs.declared.word.Word.{Word}
 use Rattle.cd_elem.specs.declared.word.Word.TheVariants as word
 use Rattle.cd_elem.specs.declared.word.SourceWord.TheVariants as source
 use Rattle.cd_elem.specs.declared.word.SinkWord.TheVariants as sink
-use Rattle.cd_meaning.specs.CanonicalWords.{word_tokens, separated}
-use Rattle.cd_meaning.specs.Grammar.{operator}
-use Rattle.cd_meaning.specs.Limits.{IsWithinLimits}
-use Rattle.cd_meaning.specs.Tokens.{whole_token}
+use Rattle.cd_grammar.specs.CanonicalWords.{word_tokens, separated}
+use Rattle.cd_grammar.specs.Grammar.{operator}
+use Rattle.cd_grammar.specs.Limits.{IsWithinLimits}
+use Rattle.cd_grammar.specs.Tokens.{whole_token}
 
 -- a pipe's tokens, and whether they need parentheses as a member of a chain
 pub record Piece : Type 0 where

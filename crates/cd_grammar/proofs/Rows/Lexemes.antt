@@ -9,9 +9,9 @@ use Rattle.cd_elem.specs.declared.token.Sign.TheVariants as sign
 use Rattle.cd_elem.specs.declared.token.Token.{Token}
 use Rattle.cd_elem.specs.declared.token.Token.TheVariants as token
 use Rattle.cd_elem.specs.declared.token.Lexeme.{Lexeme}
-use Rattle.cd_meaning.specs.Lexemes.{IsNext, Stops, Lexes, Tokenizes}
-use Rattle.cd_meaning.specs.Tokens.{IsLongest, HasNoToken}
-use Rattle.cd_meaning.proofs.ScriptRows.Deciding.{longest, has_none, next, at_the_end, at_no_token, at_a_digit}
+use Rattle.cd_grammar.specs.Lexemes.{IsNext, Stops, Lexes, Tokenizes}
+use Rattle.cd_grammar.specs.Tokens.{IsLongest, HasNoToken}
+use Rattle.cd_grammar.proofs.Rows.Deciding.{longest, has_none, next, at_the_end, at_no_token, at_a_digit}
 
 -- ---- the longest token
 both_letters : IsLongest (codes "ab") (token.Named (codes "ab")) 2

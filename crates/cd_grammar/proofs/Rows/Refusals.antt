@@ -15,10 +15,10 @@ use Rattle.cd_elem.specs.declared.token.Token.{Token}
 use Rattle.cd_elem.specs.declared.token.Token.TheVariants as token
 use Rattle.cd_elem.specs.declared.token.Lexeme.{Lexeme}
 use Rattle.cd_elem.specs.declared.token.LimitKind.TheVariants.{Depth, Literal, Number}
-use Rattle.cd_meaning.specs.Grammar as g
-use Rattle.cd_meaning.specs.Limits.{limit_at}
-use Rattle.cd_meaning.specs.Refusals.{tokens, Refuses, EndsEarly, PassesLimit, IsText, IsSyntaxAt, IsLimitAt}
-use Rattle.cd_meaning.proofs.ScriptRows.Deciding.{next, at_the_end, at_no_token, passes_to, within_limits}
+use Rattle.cd_grammar.specs.Grammar as g
+use Rattle.cd_grammar.specs.Limits.{limit_at}
+use Rattle.cd_grammar.specs.Refusals.{tokens, Refuses, EndsEarly, PassesLimit, IsText, IsSyntaxAt, IsLimitAt}
+use Rattle.cd_grammar.proofs.Rows.Deciding.{next, at_the_end, at_no_token, passes_to, within_limits}
 
 abbrev lexeme : Token → ℕ → Lexeme
 lexeme t at = record { token = t; at = at }

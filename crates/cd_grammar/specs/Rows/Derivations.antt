@@ -32,7 +32,7 @@ use Rattle.cd_elem.specs.declared.word.TestName.TheVariants as test
 use Rattle.cd_elem.specs.declared.word.ByteMap.TheVariants as byte_map
 use Rattle.cd_elem.specs.declared.word.PieceMap.TheVariants as piece_map
 use Rattle.cd_elem.specs.declared.script.Pipe.{Pipe}
-use Rattle.cd_meaning.specs.Grammar as g
+use Rattle.cd_grammar.specs.Grammar as g
 
 abbrev part : g.Part
 part = g.OfWord (g.Plain plain.PassE)

@@ -31,11 +31,11 @@ use Rattle.cd_elem.specs.declared.word.TestName.{TestName}
 use Rattle.cd_elem.specs.declared.word.TestName.TheVariants as test
 use Rattle.cd_elem.specs.declared.word.ByteMap.TheVariants as byte_map
 use Rattle.cd_elem.specs.declared.word.PieceMap.TheVariants as piece_map
-use Rattle.cd_meaning.specs.Grammar as g
-use Rattle.cd_meaning.specs.Tokens.{whole_token}
-use Rattle.cd_meaning.specs.Spelling.{spelled}
-use Rattle.cd_meaning.specs.CanonicalWords.{word_tokens}
-use Rattle.cd_meaning.specs.CanonicalText.{spaced}
+use Rattle.cd_grammar.specs.Grammar as g
+use Rattle.cd_grammar.specs.Tokens.{whole_token}
+use Rattle.cd_grammar.specs.Spelling.{spelled}
+use Rattle.cd_grammar.specs.CanonicalWords.{word_tokens}
+use Rattle.cd_grammar.specs.CanonicalText.{spaced}
 
 -- The derivation stands for this tree. The tree has the derivation's tokens, which are written so, and each of which is read as itself.
 abbrev Written : List ℕ → g.WordForm → Word → Type 0

@@ -11,7 +11,7 @@ use Rattle.cd_elem.specs.declared.token.Token.{Token}
 use Rattle.cd_elem.specs.declared.token.Token.TheVariants as token
 use Rattle.cd_elem.specs.declared.token.LimitKind.{LimitKind}
 use Rattle.cd_elem.specs.declared.token.LimitKind.TheVariants.{Tokens, Depth, Literal, Number}
-use Rattle.cd_meaning.specs.Limits.{every_number, limit_of, limit_behind, limit_at, open_brackets}
+use Rattle.cd_grammar.specs.Limits.{every_number, limit_of, limit_behind, limit_at, open_brackets}
 
 -- ---- tokens
 abbrev paren : Token

@@ -10,9 +10,9 @@ use Rattle.cd_elem.specs.declared.token.Token.{Token}
 use Rattle.cd_elem.specs.declared.token.Token.TheVariants as token
 use Rattle.cd_elem.specs.declared.token.Lexeme.{Lexeme}
 use Rattle.cd_elem.specs.declared.token.LimitKind.TheVariants.{Tokens}
-use Rattle.cd_meaning.specs.Grammar as g
-use Rattle.cd_meaning.specs.Limits.{Bounds, is_opening, is_outside, is_too_long, limit_at, limit_behind, limit_here}
-use Rattle.cd_meaning.specs.Refusals.{tokens, PassesLimit, PassesTo}
+use Rattle.cd_grammar.specs.Grammar as g
+use Rattle.cd_grammar.specs.Limits.{Bounds, is_opening, is_outside, is_too_long, limit_at, limit_behind, limit_here}
+use Rattle.cd_grammar.specs.Refusals.{tokens, PassesLimit, PassesTo}
 
 abbrev release : Token
 release = token.Word (keyword.Opening opening.Release)

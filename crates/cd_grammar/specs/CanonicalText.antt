@@ -6,8 +6,8 @@ use Rattle.cd_elem.specs.declared.token.Keyword.TheVariants as keyword
 use Rattle.cd_elem.specs.declared.token.Sign.TheVariants as sign
 use Rattle.cd_elem.specs.declared.token.Token.{Token}
 use Rattle.cd_elem.specs.declared.token.Token.TheVariants as token
-use Rattle.cd_meaning.specs.Canonical.{statement_tokens}
-use Rattle.cd_meaning.specs.Spelling.{spelled}
+use Rattle.cd_grammar.specs.Canonical.{statement_tokens}
+use Rattle.cd_grammar.specs.Spelling.{spelled}
 
 -- no blank stands before these
 abbrev pub is_closing : Token → Bool

@@ -1,0 +1,13 @@
+pub mod Canonical
+pub mod CanonicalText
+pub mod CanonicalWords
+pub mod Grammar
+pub mod Lexemes
+pub mod Limits
+pub mod Literals
+pub mod Refusals
+pub mod Reserved
+pub mod Rows
+pub mod Spelling
+pub mod Tokens
+pub mod WordTrees
