@@ -2,7 +2,7 @@
 ghost use Rattle.std.specs.Prelude.{◌≡◌, ◌<◌, ◌≤◌, ◌+◌, ◌*◌, ◌%◌, ◌^◌, IfOk, MatchOption, Some, length, sum};
 ghost use Rattle.cd_elem.specs.declared.kind.Sort.TheVariants as sort;
 ghost use Rattle.cd_step.specs.Parts.{Answers, Wait};
-ghost use Rattle.cd_elemwise.specs.Words.{HasType, kind_of};
+ghost use Rattle.cd_elemwise.specs.Carried.{HasType, kind_of};
 ghost use Rattle.cd_elemwise.specs.Stages.{seen_stage, stage_fits};
 
 use cd_elem::{ByteList, Chunk, ElemWord, Items, NoMemory, Sort};

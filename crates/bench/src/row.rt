@@ -2,7 +2,7 @@
 ghost use Rattle.std.specs.Prelude.{◌≡◌, ◌<◌, ◌≤◌, ◌*◌, ◌/◌, max, length};
 ghost use Rattle.std.specs.Duration.{as_nanos};
 ghost use Rattle.cd_elem.specs.declared.kind.Sort.TheVariants as sort;
-ghost use Rattle.cd_elemwise.specs.Words.{HasType};
+ghost use Rattle.cd_elemwise.specs.Carried.{HasType};
 
 use crate::feed::{copied, fed, summed};
 use cd_elem::ElemWord;

@@ -1,7 +1,7 @@
 // A stage that is given an input in chunks, and what is seen of it.
 ghost use Rattle.std.specs.Prelude.{◌≡◌, ◌<◌, ◌≤◌, IfOk, IsTrue, Some, false, length};
 ghost use Rattle.cd_step.specs.Parts.{Answers, IsChunk, Wait};
-ghost use Rattle.cd_elemwise.specs.Words.{ClassFits, HasType, kind_of};
+ghost use Rattle.cd_elemwise.specs.Carried.{ClassFits, HasType, kind_of};
 ghost use Rattle.cd_elemwise.specs.Stages.{seen_stage, stage_fits};
 
 use crate::error::CaseError;

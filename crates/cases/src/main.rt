@@ -6,7 +6,7 @@ mod driver;
 mod error;
 mod notation;
 mod texts;
-mod words;
+mod word_runs;
 
 use anyhow::Context;
 use error::CaseError;

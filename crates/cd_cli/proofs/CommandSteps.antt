@@ -11,7 +11,7 @@ use Rattle.cd_world.specs.declared.world.WorldError.TheVariants.{Failed, NoMemor
 use Rattle.cd_world.specs.Causes.{Rose}
 use Rattle.cd_world.specs.Files.{Files}
 use Rattle.cd_meaning.specs.Stream.{Value, Done}
-use Rattle.cd_meaning.specs.Words.{Mark, AtEnd}
+use Rattle.cd_meaning.specs.RunShapes.{Mark, AtEnd}
 use Rattle.cd_meaning.specs.TakeForm.{front_ending, ending_of, take_script}
 use Rattle.cd_meaning.proofs.TakeForm.{form_ending, form_puts, whole_puts, whole_ends}
 use Rattle.cd_cli.specs.declared.cause.Cause.{Cause}
@@ -19,12 +19,12 @@ use Rattle.cd_cli.specs.declared.cause.Cause.TheVariants.{Success, NotBuilt, Out
 use Rattle.cd_cli.specs.Cause.{cause_of, script_cause, words_cause, HasOrigin}
 use Rattle.cd_cli.specs.Form.{NoForm}
 use Rattle.cd_cli.specs.Judge.{IsScriptOf, HasTree, HasNone, IsRefused, too_long, no_utf8, syntax, limit}
-use Rattle.cd_cli.specs.declared.words.Command.{Command}
-use Rattle.cd_cli.specs.declared.words.Command.TheVariants.{Run, Show}
-use Rattle.cd_cli.specs.declared.words.WordsRefusal.{WordsRefusal}
-use Rattle.cd_cli.specs.declared.words.WordsRefusal.TheVariants as words_refusal
-use Rattle.cd_cli.specs.Words.{NamesScript, IsCommand, IsRead, script_of}
-use Rattle.cd_cli.specs.Command.{IsRunCause, IsUnread, Runs, RunsTree, no_form, of_form, Does, Judges, no_memory, no_script, of_tree, Logs, ReadsAndJudges, unread, read, Calls, other_words, of_command, Called, Puts, SendsTree, SendsFor, Sends, SendsScript, Answers, Sent, IsTaken}
+use Rattle.cd_cli.specs.declared.arguments.Command.{Command}
+use Rattle.cd_cli.specs.declared.arguments.Command.TheVariants.{Run, Show}
+use Rattle.cd_cli.specs.declared.arguments.WordsRefusal.{WordsRefusal}
+use Rattle.cd_cli.specs.declared.arguments.WordsRefusal.TheVariants as words_refusal
+use Rattle.cd_cli.specs.Arguments.{NamesScript, IsCommand, AreArguments, script_of}
+use Rattle.cd_cli.specs.Command.{IsRunCause, IsUnread, Runs, RunsTree, no_form, of_form, Does, Judges, no_memory, no_script, of_tree, Logs, ReadsAndJudges, unread, read, Calls, other_words, of_command, Called, Puts, SendsTree, SendsFor, Sends, SendsScript, AnswersCommand, Sent, IsTaken}
 use Rattle.cd_cli.specs.Script.{ReadsWhole, TriesRead, ReadsFront, LogsRead}
 use Rattle.cd_cli.specs.Seen.{seen_of}
 use Rattle.cd_cli.specs.Take.{Takes, LogsTake}
@@ -250,24 +250,24 @@ same_command words (Show a) (Show b) first second = ap Show (script_is words _ _
 
 module _ (words : List (List ℕ)) where
   pub words_send : (command : Command) (cause : Cause) (f f' : Files) → IsCommand words command → Sent (SendsScript (SendsFor command f.contents) f.contents (script_of command) cause) f f'
-      → Sent (Answers words f.contents cause) f f'
+      → Sent (AnswersCommand words f.contents cause) f f'
   words_send command cause f f' is sends = record { sent = sends.sent; output = sends.output; rest = sends.rest; answer = of_command command sends.sent is sends.answer }
 
   pub words_log : (command : Command) (cause : Cause) (l l' : List Event) → IsCommand words command → Called (ReadsAndJudges (Does command) (script_of command) cause) l l' → Called (Calls words cause) l l'
   words_log command cause l l' is called = record { reading = called.reading; calls = called.calls; log = called.log; answer = of_command command called.reading called.calls is called.answer }
 
-  refused_answer : (refusal : WordsRefusal) (contents : List ℕ → List ℕ) → IsRead words (Err refusal) → Answers words contents (words_cause refusal) []
+  refused_answer : (refusal : WordsRefusal) (contents : List ℕ → List ℕ) → AreArguments words (Err refusal) → AnswersCommand words contents (words_cause refusal) []
   refused_answer words_refusal.Usage contents none = other_words none refl
   refused_answer words_refusal.NoMemory contents none = no_memory refl
 
-  refused_calls : (refusal : WordsRefusal) → IsRead words (Err refusal) → Calls words (words_cause refusal) [] []
+  refused_calls : (refusal : WordsRefusal) → AreArguments words (Err refusal) → Calls words (words_cause refusal) [] []
   refused_calls words_refusal.Usage none = other_words none refl
   refused_calls words_refusal.NoMemory none = no_memory refl
 
-  pub refused_send : (refusal : WordsRefusal) (f : Files) → IsRead words (Err refusal) → Sent (Answers words f.contents (words_cause refusal)) f f
+  pub refused_send : (refusal : WordsRefusal) (f : Files) → AreArguments words (Err refusal) → Sent (AnswersCommand words f.contents (words_cause refusal)) f f
   refused_send refusal f is = record { sent = []; output = sym (append-nil f.output); rest = refl; answer = refused_answer refusal f.contents is }
 
-  pub refused_log : (refusal : WordsRefusal) (l : List Event) → IsRead words (Err refusal) → Called (Calls words (words_cause refusal)) l l
+  pub refused_log : (refusal : WordsRefusal) (l : List Event) → AreArguments words (Err refusal) → Called (Calls words (words_cause refusal)) l l
   refused_log refusal l is = record { reading = []; calls = []; log = sym (append-nil l); answer = refused_calls refusal is }
 
   -- a command comes to its end
@@ -277,7 +277,7 @@ module _ (words : List (List ℕ)) where
       script_completes before now cause origin quiet command contents sent
       (subst (λ (c : Command). IsTaken c (contents (script_of c))) (same_command words other command is_other is) taken) sends
 
-  pub refused_completes : (refusal : WordsRefusal) (command : Command) → IsRead words (Err refusal) → IsCommand words command → (words_cause refusal ≡ Success) ⊎ (words_cause refusal ≡ WithoutMemory)
+  pub refused_completes : (refusal : WordsRefusal) (command : Command) → AreArguments words (Err refusal) → IsCommand words command → (words_cause refusal ≡ Success) ⊎ (words_cause refusal ≡ WithoutMemory)
   refused_completes words_refusal.Usage command none is = absurd (none command is)
   refused_completes words_refusal.NoMemory command none is = inr refl
 

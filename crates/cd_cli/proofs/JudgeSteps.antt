@@ -6,7 +6,7 @@ use Rattle.cd_elem.specs.declared.script.Stmt.{Stmt}
 use Rattle.cd_grammar.specs.Refusals.{IsText}
 use Rattle.cd_script.specs.declared.refusal.ScriptRefusal.{ScriptRefusal}
 use Rattle.cd_script.specs.declared.refusal.ScriptRefusal.TheVariants.{Syntax, Limit, NoMemory}
-use Rattle.cd_script.specs.Answers.{Parses, Gives}
+use Rattle.cd_script.specs.Answers.{Parses, AnswersOnly}
 use Rattle.cd_cli.specs.declared.cause.Cause.{Cause}
 use Rattle.cd_cli.specs.declared.cause.Cause.TheVariants.{ScriptLimit, ScriptText, NoMemory as WithoutMemory}
 use Rattle.cd_cli.specs.Cause.{cause_of_refusal}
@@ -22,7 +22,7 @@ module _ (text : List ℕ) where
   parsed_has_tree : (tree : List Stmt) → IsFit text → IsText text tree → ((other : List Stmt) → IsText text other → tree ≡ other) → HasTree text tree
   parsed_has_tree tree fit is only = record { is = record { fit = fit; text_is = is }; only = λ other o. sym (only other o.text_is) }
 
-  refused_has_none : (refusal : ScriptRefusal) → IsFit text → Parses text (Err refusal) → ((tree : List Stmt) → IsText text tree → Gives tree (Err refusal))
+  refused_has_none : (refusal : ScriptRefusal) → IsFit text → Parses text (Err refusal) → ((tree : List Stmt) → IsText text tree → AnswersOnly tree (Err refusal))
       → (cause_of_refusal refusal ≡ WithoutMemory) ⊎ HasNone text (cause_of_refusal refusal)
   refused_has_none (Syntax at) fit parses gives = inr (record { why = syntax at fit parses; none = λ tree is. gives tree is.text_is })
   refused_has_none (Limit which at) fit parses gives = inr (record { why = limit which at fit parses; none = λ tree is. gives tree is.text_is })
@@ -41,7 +41,7 @@ module _ (text : List ℕ) where
     read_has_tree tree is only =
         parsed_has_tree tree fit (subst (λ (t : List ℕ). IsText t tree) same is) (λ other o. only other (subst (λ (t : List ℕ). IsText t other) (sym same) o))
 
-    pub read_has_none : (refusal : ScriptRefusal) → Parses read (Err refusal) → ((tree : List Stmt) → IsText read tree → Gives tree (Err refusal))
+    pub read_has_none : (refusal : ScriptRefusal) → Parses read (Err refusal) → ((tree : List Stmt) → IsText read tree → AnswersOnly tree (Err refusal))
         → (cause_of_refusal refusal ≡ WithoutMemory) ⊎ HasNone text (cause_of_refusal refusal)
     read_has_none refusal parses gives =
         refused_has_none refusal fit (subst (λ (t : List ℕ). Parses t (Err refusal)) same parses) (λ tree is. gives tree (subst (λ (t : List ℕ). IsText t tree) (sym same) is))

@@ -1,5 +1,5 @@
 mod CommandSteps
-mod Fronts
+mod ByteFronts
 mod JudgeSteps
 mod PassSteps
 mod RestSteps

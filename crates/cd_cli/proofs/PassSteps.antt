@@ -14,11 +14,11 @@ use Rattle.cd_world.specs.declared.world.WorldError.{WorldError}
 use Rattle.cd_world.specs.declared.world.WorldError.TheVariants.{Failed, NoMemory}
 use Rattle.cd_world.specs.Events.{gave, given_by, bytes_given, written_by, written_to, IsWriteOn}
 use Rattle.cd_world.specs.Files.{Files, left_at, with_output, ReadsFile}
-use Rattle.cd_meaning.specs.Words.{Mark, AtEnd, MayGoOn, Broken}
+use Rattle.cd_meaning.specs.RunShapes.{Mark, AtEnd, MayGoOn, Broken}
 use Rattle.cd_cli.specs.Seen.{mark_of}
 use Rattle.cd_cli.specs.Take.{is_failure, IsCalm, KeepsRest, NoneFailed, Passing, IsMove, LogsFront, HasEnough, LogsPass}
 use Rattle.cd_cli.proofs.RestSteps.{keeps_on, keeps_by}
-use Rattle.cd_cli.proofs.Fronts.{take-append, take_least, take-given, left_after_read}
+use Rattle.cd_cli.proofs.ByteFronts.{take-append, take_least, take-given, left_after_read}
 use Rattle.cd_cli.proofs.SeenSteps.{goes_on_unbroken, mark_behind}
 use Rattle.cd_cli.proofs.WriteSteps.{nothing_more, answered, IsUnfailed}
 

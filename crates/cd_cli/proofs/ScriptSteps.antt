@@ -19,11 +19,11 @@ use Rattle.cd_world.specs.declared.world.CloseFailed.{CloseFailed}
 use Rattle.cd_world.specs.Events.{opened, closed, gave, given_by, bytes_given}
 use Rattle.cd_world.specs.Live.{open_as}
 use Rattle.cd_world.specs.Files.{Files, left_at, with_given, after_open, ReadsFile, ClosesFile}
-use Rattle.cd_cli.specs.Script.{StopsIn, ComesFrom, TriesRead, Fills, IsGaveOn, Reads, LogsFill, ReadsWhole, none_called, open_failed, opened_closed, ReadsFront, LogsRead}
+use Rattle.cd_cli.specs.Script.{StopsIn, ComesFrom, TriesRead, Fills, IsGaveOn, ScriptReads, LogsFill, ReadsWhole, none_called, open_failed, opened_closed, ReadsFront, LogsRead}
 use Rattle.cd_cli.specs.Cause.{answer_of}
 use Rattle.cd_cli.specs.Take.{KeepsRest}
 use Rattle.cd_cli.proofs.RestSteps.{keeps_on, keeps_by}
-use Rattle.cd_cli.proofs.Fronts.{take-given, left_after_read}
+use Rattle.cd_cli.proofs.ByteFronts.{take-given, left_after_read}
 use Rattle.cd_cli.proofs.WriteSteps.{nothing_more, answered}
 
 -- the files once so much of a buffer is filled
@@ -131,7 +131,7 @@ log_fill_full d filled buffer l l' so_far full =
 module _ (d : Descriptor) (filled k : ℕ) (buffer into : List ℕ) (l l1 l2 : List Event) (so_far : LogsFilling d filled buffer l l1)
     (fits : filled ≤ length buffer) (k_is : k ≡ length buffer - filled) (size : length into ≡ k) where
   -- the reads so far, and one more that gave nothing
-  stopped : (last : List Event) → (last ≡ []) ⊎ ((last ≡ GaveEnd d ∷ []) ⊎ (last ≡ ReadFailed d ∷ [])) → Reads d (length (put_mid filled k buffer into)) so_far.gives last
+  stopped : (last : List Event) → (last ≡ []) ⊎ ((last ≡ GaveEnd d ∷ []) ⊎ (last ≡ ReadFailed d ∷ [])) → ScriptReads d (length (put_mid filled k buffer into)) so_far.gives last
   stopped last ending = record {
     gave = so_far.gave;
     within = omega (arith, ap length so_far.given, length-take filled buffer, size_is filled k 0 buffer into fits k_is size (omega arith));

@@ -2,7 +2,7 @@
 use Rattle.std.proofs.Common.{◌≡◌, ◌≢◌, List, [], ◌∷◌, ◌++◌, refl, sym, subst}
 use Rattle.cd_world.specs.declared.event.Event.{Event}
 use Rattle.cd_world.specs.declared.event.Event.TheVariants.{OpenedRead, Created, Marked, OpenFailed, Gave, GaveEnd, ReadFailed, Wrote, WriteFailed, Closed, CloseFailed as CloseFailing}
-use Rattle.cd_meaning.specs.Words.{Mark, AtEnd, MayGoOn, Broken}
+use Rattle.cd_meaning.specs.RunShapes.{Mark, AtEnd, MayGoOn, Broken}
 use Rattle.cd_cli.specs.Seen.{mark_of}
 
 -- which mark it is

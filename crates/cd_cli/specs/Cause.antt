@@ -7,8 +7,8 @@ use Rattle.cd_world.specs.declared.world.WorldError.TheVariants.{Failed, NoMemor
 use Rattle.cd_script.specs.declared.refusal.ScriptRefusal.{ScriptRefusal}
 use Rattle.cd_script.specs.declared.refusal.ScriptRefusal.TheVariants as refusal
 use Rattle.cd_cli.specs.declared.cause.Cause.{Cause}
-use Rattle.cd_cli.specs.declared.words.WordsRefusal.{WordsRefusal}
-use Rattle.cd_cli.specs.declared.words.WordsRefusal.TheVariants as words
+use Rattle.cd_cli.specs.declared.arguments.WordsRefusal.{WordsRefusal}
+use Rattle.cd_cli.specs.declared.arguments.WordsRefusal.TheVariants as words
 use Rattle.cd_cli.specs.declared.cause.Cause.TheVariants as cause
 
 abbrev pub status_of : Cause → ℕ

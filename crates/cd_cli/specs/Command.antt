@@ -14,9 +14,9 @@ use Rattle.cd_grammar.specs.CanonicalText.{canonical_text}
 use Rattle.cd_cli.specs.declared.cause.Cause.{Cause}
 use Rattle.cd_cli.specs.declared.cause.Cause.TheVariants.{Success, Usage, ScriptFault, NotBuilt, OutsideFault, NoMemory}
 use Rattle.cd_cli.specs.Cause.{script_cause}
-use Rattle.cd_cli.specs.declared.words.Command.{Command}
-use Rattle.cd_cli.specs.declared.words.Command.TheVariants.{Run, Show}
-use Rattle.cd_cli.specs.Words.{IsCommand, IsNone, script_of}
+use Rattle.cd_cli.specs.declared.arguments.Command.{Command}
+use Rattle.cd_cli.specs.declared.arguments.Command.TheVariants.{Run, Show}
+use Rattle.cd_cli.specs.Arguments.{IsCommand, IsNone, script_of}
 use Rattle.cd_cli.specs.Form.{NoForm}
 use Rattle.cd_cli.specs.Judge.{HasTree, HasNone, IsScriptOf}
 use Rattle.cd_cli.specs.Script.{ReadsWhole, TriesRead}
@@ -136,11 +136,11 @@ pub data SendsScript (SendsSo : List Stmt → Cause → List ℕ → Type 0) (co
   read : (sent : List ℕ) → Sends SendsSo (contents script) cause sent → SendsScript SendsSo contents script cause sent
 
 -- The words are read, and nothing is sent for words of no command.
-pub data Answers (words : List (List ℕ)) (contents : List ℕ → List ℕ) (cause : Cause) : List ℕ → Type 0 where
-  no_memory : cause ≡ NoMemory → Answers words contents cause []
-  other_words : IsNone words → cause ≡ Usage → Answers words contents cause []
+pub data AnswersCommand (words : List (List ℕ)) (contents : List ℕ → List ℕ) (cause : Cause) : List ℕ → Type 0 where
+  no_memory : cause ≡ NoMemory → AnswersCommand words contents cause []
+  other_words : IsNone words → cause ≡ Usage → AnswersCommand words contents cause []
   of_command : (command : Command) (sent : List ℕ) → IsCommand words command → SendsScript (SendsFor command contents) contents (script_of command) cause sent
-      → Answers words contents cause sent
+      → AnswersCommand words contents cause sent
 
 -- What was sent in all, by the answer to a tree, a text, a script, and to the words. No file is changed, nothing is taken of standard input, and
 -- standard error gets nothing.

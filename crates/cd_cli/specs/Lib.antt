@@ -5,4 +5,4 @@ pub mod Judge
 pub mod Script
 pub mod Seen
 pub mod Take
-pub mod Words
+pub mod Arguments

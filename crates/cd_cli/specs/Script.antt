@@ -21,7 +21,7 @@ IsGaveOn d (Gave from bytes) = from ≡ d
 IsGaveOn d _ = ⊥
 
 -- The reads of a file: some that gave bytes, up to this size in all, and at most one more, which told the end or failed.
-pub record Reads (d : Descriptor) (size : ℕ) (gives last : List Event) : Type 0 where
+pub record ScriptReads (d : Descriptor) (size : ℕ) (gives last : List Event) : Type 0 where
   pub gave : All (IsGaveOn d) gives
   pub within : length (bytes_given gives) ≤ size
   pub ending : (last ≡ []) ⊎ ((last ≡ GaveEnd d ∷ []) ⊎ (last ≡ ReadFailed d ∷ []))
@@ -40,7 +40,7 @@ pub record LogsFill (d : Descriptor) (buffer : List ℕ) (result : Result ℕ Wo
   pub gives : List Event
   pub last : List Event
   pub log : l' ≡ l ++ (gives ++ last)
-  pub reads : Reads d (length buffer) gives last
+  pub reads : ScriptReads d (length buffer) gives last
   pub whole : IfOk result (λ filled. (bytes_given gives ≡ take filled buffer) × IsWhole d (length buffer) gives last)
   pub stopped : IfErr result (StopsIn d last)
 
@@ -50,7 +50,7 @@ pub record ReadsWhole (name : List ℕ) (size : ℕ) (text : List ℕ) (events :
   pub gives : List Event
   pub last : List Event
   pub calls : events ≡ OpenedRead name d ∷ (gives ++ last) ++ Closed d ∷ []
-  pub reads : Reads d size gives last
+  pub reads : ScriptReads d size gives last
   pub whole : IsWhole d size gives last
   pub text_is : text ≡ bytes_given gives
 
@@ -64,7 +64,7 @@ ComesFrom d last end NoMemory = (last ≡ []) × (end ≡ Closed d)
 pub data TriesRead (name : List ℕ) (size : ℕ) : WorldError → List Event → Type 0 where
   none_called : TriesRead name size NoMemory []
   open_failed : TriesRead name size Failed (OpenFailed name ∷ [])
-  opened_closed : (error : WorldError) (d : Descriptor) (gives last : List Event) (end : Event) → Reads d size gives last → IsCloseOf d end → ComesFrom d last end error
+  opened_closed : (error : WorldError) (d : Descriptor) (gives last : List Event) (end : Event) → ScriptReads d size gives last → IsCloseOf d end → ComesFrom d last end error
       → TriesRead name size error (OpenedRead name d ∷ (gives ++ last) ++ end ∷ [])
 
 -- A file of at most this size was read whole, or this many bytes of another, and the text is what was read.

@@ -3,7 +3,7 @@ use Rattle.std.specs.Prelude.{List, [], ◌∷◌}
 use Rattle.cd_world.specs.declared.event.Event.{Event}
 use Rattle.cd_world.specs.declared.event.Event.TheVariants.{GaveEnd, ReadFailed}
 use Rattle.cd_world.specs.Events.{bytes_given}
-use Rattle.cd_meaning.specs.Words.{Mark, AtEnd, MayGoOn, Broken, Seen}
+use Rattle.cd_meaning.specs.RunShapes.{Mark, AtEnd, MayGoOn, Broken, Seen}
 
 -- what is known behind the bytes of a file that were read: it has no more, or the next read failed, or it may have more
 abbrev pub mark_of : List Event → Mark

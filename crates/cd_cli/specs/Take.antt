@@ -7,7 +7,7 @@ use Rattle.cd_world.specs.declared.world.WorldError.{WorldError}
 use Rattle.cd_world.specs.declared.world.WorldError.TheVariants.{Failed}
 use Rattle.cd_world.specs.Events.{written_to, bytes_given, IsWriteOn, IsCloseOf}
 use Rattle.cd_world.specs.Files.{Files, with_output, left_at}
-use Rattle.cd_meaning.specs.Words.{AtEnd}
+use Rattle.cd_meaning.specs.RunShapes.{AtEnd}
 use Rattle.cd_cli.specs.Seen.{mark_of}
 
 -- a call that failed

@@ -2,7 +2,7 @@
 ghost use Rattle.std.specs.Prelude.{◌≡◌};
 ghost use Rattle.cd_cli.specs.Cause.{status_of, cause_of_refusal, script_cause};
 
-use crate::words::WordsRefusal;
+use crate::arguments::WordsRefusal;
 use cd_elem::LimitKind;
 use cd_script::ScriptRefusal;
 use cd_world::WorldError;

@@ -3,15 +3,15 @@ ghost use Rattle.std.specs.Prelude.{◌≡◌, List, IsTrue, map};
 ghost use Rattle.std.specs.String.{string_bytes};
 ghost use Rattle.cd_grammar.specs.Canonical.{IsTreeWithin};
 ghost use Rattle.cd_cli.specs.Cause.{HasOrigin, status_of};
-ghost use Rattle.cd_cli.specs.Words.{script_of};
-ghost use Rattle.cd_cli.specs.Command.{Does, RunsTree, ShowsTree, SendsFor, SendsTree, SendsText, Judges, Logs, ReadsAndJudges, Calls, Called, Sends, SendsScript, Answers, Sent, Completes};
+ghost use Rattle.cd_cli.specs.Arguments.{script_of};
+ghost use Rattle.cd_cli.specs.Command.{Does, RunsTree, ShowsTree, SendsFor, SendsTree, SendsText, Judges, Logs, ReadsAndJudges, Calls, Called, Sends, SendsScript, AnswersCommand, Sent, Completes};
 
+use crate::arguments::{Command, read_words};
 use crate::cause::{Cause, Outcome, script_cause};
 use crate::form::{Form, form_of};
 use crate::judge::judge;
 use crate::script::read_script;
 use crate::take::{run_take, write_all};
-use crate::words::{Command, read_words};
 use cd_elem::Script;
 use cd_script::print;
 use cd_world::World;
@@ -26,7 +26,7 @@ pub fn conduit_main<W: World>(alloc: Global, words: &[String], world: &mut W) ->
     ensures status { result.status ≡ status_of result.cause }
     ensures origin { HasOrigin (W.faults world.old) (W.faults world.new) result.cause }
     ensures live { W.live world.new ≡ W.live world.old }
-    ensures files { IsTrue W.tells_files → Sent (Answers (map string_bytes words.now) (W.files world.old).contents result.cause) (W.files world.old) (W.files world.new) }
+    ensures files { IsTrue W.tells_files → Sent (AnswersCommand (map string_bytes words.now) (W.files world.old).contents result.cause) (W.files world.old) (W.files world.new) }
     ensures complete { IsTrue W.tells_files
         → Completes (map string_bytes words.now) (W.files world.old).contents (W.faults world.old) (W.faults world.new) result.cause }
     ensures log { IsTrue W.tells_log → Called (Calls (map string_bytes words.now) result.cause) (W.log world.old) (W.log world.new) }

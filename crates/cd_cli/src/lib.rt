@@ -1,14 +1,14 @@
 //! The top call: from the words of the command line, over an outside, to a status.
 #![tactic(auto)]
 
+mod arguments;
 mod cause;
 mod command;
 mod form;
 mod judge;
 mod script;
 mod take;
-mod words;
 
+pub use arguments::{Command, WordsRefusal, read_words};
 pub use cause::{Cause, Outcome};
 pub use command::conduit_main;
-pub use words::{Command, WordsRefusal, read_words};

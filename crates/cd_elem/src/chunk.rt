@@ -5,7 +5,7 @@ ghost use Rattle.cd_elem.specs.declared.kind.Sort.TheVariants as sort;
 
 use crate::items::Items;
 use crate::kind::Sort;
-use crate::memory::NoMemory;
+use crate::no_memory::NoMemory;
 use crate::{ByteList, CharList};
 use std::alloc::Global;
 use std::marker::Model;

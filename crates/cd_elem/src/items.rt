@@ -2,7 +2,7 @@
 ghost use Rattle.std.specs.Prelude.{◌≡◌, ◌<◌, ◌↔◌, [], ◌∷◌, ◌++◌, length, slice_get, IsTrue, IsSome, IfOk, IfErr, MatchOption, OnOk, OnErr};
 ghost use Rattle.std.specs.Option.{option_copied};
 
-use crate::memory::NoMemory;
+use crate::no_memory::NoMemory;
 use std::alloc::Global;
 use std::marker::Model;
 

@@ -1,7 +1,7 @@
 // Texts that a script or a list of calls owns.
 ghost use Rattle.std.specs.Prelude.{◌≡◌, IfOk};
 
-use crate::memory::NoMemory;
+use crate::no_memory::NoMemory;
 use std::alloc::Global;
 use std::marker::Model;
 

@@ -1,7 +1,7 @@
 // Names that a script gives.
 ghost use Rattle.std.specs.Prelude.{◌≡◌, IfOk};
 
-use crate::memory::NoMemory;
+use crate::no_memory::NoMemory;
 use std::alloc::Global;
 use std::marker::Model;
 

@@ -11,17 +11,17 @@ use Rattle.cd_elem.specs.declared.word.Class.{Class}
 use Rattle.cd_elem.specs.declared.word.ByteMap.{ByteMap}
 use Rattle.cd_meaning.specs.Stream.{Sort, Elem, Value, present}
 use Rattle.cd_meaning.specs.Values.{value_meaning, unit_is, bool_is, some_is}
-use Rattle.cd_meaning.specs.Words.{as_count}
+use Rattle.cd_meaning.specs.RunShapes.{as_count}
 use Rattle.cd_meaning.specs.Classes.{is_in_class, element_mapped}
 use Rattle.cd_meaning.specs.Sorts.{value_of}
 use Rattle.cd_step.specs.Parts.{Chunk}
 use Rattle.cd_step.specs.Reading.{IsRead, IsDone}
-use Rattle.cd_elemwise.specs.declared.chunks.Elements.{Elements}
-use Rattle.cd_elemwise.specs.declared.plan.Plan.TheVariants.{Need, Pass, Give, End}
+use Rattle.cd_elemwise.specs.declared.chunks.ElementSlice.{ElementSlice}
+use Rattle.cd_elemwise.specs.declared.plan.ChunkPlan.TheVariants.{Need, Pass, Give, End}
 use Rattle.cd_elemwise.specs.declared.state.Single.{Single}
-use Rattle.cd_elemwise.specs.declared.state.State.{State}
-use Rattle.cd_elemwise.specs.declared.state.State.TheVariants as state
-use Rattle.cd_elemwise.specs.Words.{Carried, Doing, Emits, IsChunkOf, IsElements, MapFits, single_of, single_plain, single_value, list_value, carried_ready, word_scan}
+use Rattle.cd_elemwise.specs.declared.state.WordState.{WordState}
+use Rattle.cd_elemwise.specs.declared.state.WordState.TheVariants as state
+use Rattle.cd_elemwise.specs.Carried.{Carried, Doing, Emits, IsChunkOf, IsElements, MapFits, single_of, single_plain, single_value, list_value, carried_ready, word_scan}
 use Rattle.cd_elemwise.specs.Plans.{IsPlan}
 use Rattle.cd_elemwise.specs.Stages.{IsPlain, StateFits}
 use Rattle.cd_elemwise.proofs.WordReads.{elems, outs, read_pass, read_take, read_while, read_filter, read_map, read_repeat, silent_repeat, silent_filter, silent_drop, silent_collect, silent_length, silent_sum, silent_last, silent_while, silent_all, done_take_while, done_drop_while, done_all, done_head, done_peek, done_null, done_drop, done_collect}
@@ -42,7 +42,7 @@ done_by k s read rest u v h d = subst (λ x. IsDone (word_scan k) s read rest x)
 
 -- ---- chunks
 
-pub elements_are : (c : Chunk) (e f : Elements) → e ≡ f → IsElements e c → IsElements f c
+pub elements_are : (c : Chunk) (e f : ElementSlice) → e ≡ f → IsElements e c → IsElements f c
 elements_are c e f h i = subst (λ x. IsElements x c) h i
 
 pub map_cut : (by : ByteMap) (k : Sort) → MapFits by k → IsTrue (is_cut k)
@@ -51,7 +51,7 @@ map_cut by Sort.Chars h = refl
 map_cut by Sort.Block h = absurd h
 map_cut by Sort.Text h = absurd h
 
-pub plain_cut : (s : State) (k listed : Sort) → IsPlain s → StateFits s k listed → IsTrue (is_cut k)
+pub plain_cut : (s : WordState) (k listed : Sort) → IsPlain s → StateFits s k listed → IsTrue (is_cut k)
 plain_cut state.Pass k listed p f = f
 plain_cut (state.Take n) k listed p f = f
 plain_cut (state.TakeWhile c) k listed p f = f
@@ -70,7 +70,7 @@ plain_cut state.Null k listed p f = f
 plain_cut (state.Collect n) k listed p f = absurd p
 plain_cut state.SinkNull k listed p f = absurd p
 
-pub some_len : (s : State) (k : Sort) (len : ℕ) → IsPlain s → StateFits s k k → HasSize k len → 0 < len
+pub some_len : (s : WordState) (k : Sort) (len : ℕ) → IsPlain s → StateFits s k k → HasSize k len → 0 < len
 some_len s k len p f h = h.some (plain_cut s k k p f)
 
 -- ---- lengths

@@ -21,13 +21,13 @@ use Rattle.cd_step.specs.Reading.{scan_rest, part_of, IsRead, IsSilent}
 use Rattle.cd_step.proofs.Outs.{stand_wait}
 use Rattle.cd_step.proofs.Weighing.{weigh_back}
 use Rattle.cd_step.proofs.Reading.{goes_counted, kept_fed, need_law, emit_law, done_finishes, close_finishes, done_ready, floor_told, chunk_law, end_law, retire_law, scan_sound}
-use Rattle.cd_elemwise.specs.declared.state.State.{State}
-use Rattle.cd_elemwise.specs.declared.state.State.TheVariants as state
+use Rattle.cd_elemwise.specs.declared.state.WordState.{WordState}
+use Rattle.cd_elemwise.specs.declared.state.WordState.TheVariants as state
 use Rattle.cd_elemwise.specs.declared.stage.ElemStage.{ElemStage}
-use Rattle.cd_elemwise.specs.declared.plan.Plan.TheVariants as plan
-use Rattle.cd_elemwise.specs.Words.{Carried, Doing, Emits, IsChunkOf, gathered, kind_of, gives_of, state_ready, state_value, word_scan}
+use Rattle.cd_elemwise.specs.declared.plan.ChunkPlan.TheVariants as plan
+use Rattle.cd_elemwise.specs.Carried.{Carried, Doing, Emits, IsChunkOf, gathered, kind_of, gives_of, state_ready, state_value, word_scan}
 use Rattle.cd_elemwise.specs.Plans.{IsPlan}
-use Rattle.cd_elemwise.specs.Stages.{grade_of, carries, may_carry, IsPlain, carried, held_of, seen_stage, seen_from, with_chunk, StandFits, IsWithin, stage_fits, IsSameStage, Went, asks_of, IsFinal}
+use Rattle.cd_elemwise.specs.Stages.{grade_of, carries, may_carry, IsPlain, carried, held_of, seen_stage, seen_from, with_chunk, StandFits, KeepsBounds, stage_fits, IsSameStage, Went, asks_of, IsFinal}
 use Rattle.cd_elemwise.proofs.WordReads.{elems, outs}
 
 -- ---- chunks of cut streams
@@ -77,7 +77,7 @@ elems_split n numbers = sym (elems_append (take n numbers) (drop n numbers)) ∙
 
 -- ---- what it holds
 
-pub carries_one : (s : State) → carries s ≤ 1
+pub carries_one : (s : WordState) → carries s ≤ 1
 carries_one state.Pass = omega arith
 carries_one (state.Take n) = omega arith
 carries_one (state.TakeWhile c) = omega arith
@@ -97,7 +97,7 @@ carries_one state.Null = omega arith
 carries_one (state.Collect n) = omega arith
 carries_one state.SinkNull = omega arith
 
-carries_most : (s : State) → carries s ≤ may_carry s
+carries_most : (s : WordState) → carries s ≤ may_carry s
 carries_most state.Pass = omega arith
 carries_most (state.Take n) = omega arith
 carries_most (state.TakeWhile c) = omega arith
@@ -117,7 +117,7 @@ carries_most state.Null = omega arith
 carries_most (state.Collect n) = omega arith
 carries_most state.SinkNull = omega arith
 
-pub within_held : (e : ElemStage) → IsWithin e → IsHeld (seen_stage e)
+pub within_held : (e : ElemStage) → KeepsBounds e → IsHeld (seen_stage e)
 within_held e h = let c = carries_most e.state in let w = given_weight e.sort e.keep h.1 in let h0 = h.0 in omega (arith, c, w, h0)
 
 -- ---- what no step changes
@@ -186,7 +186,7 @@ pub give_stage : (e : ElemStage) (s : Carried) (c d : Chunk) (count : ℕ) (r : 
 give_stage e s c d count r h t i b p = emit_stage e s c d count r h t i p.3 p.4 p.5 p.0 p.6 (cut_rest e.sort (drop count c.1) r h (subst (λ k. IsChunkOf k (drop count c.1) r) i b))
 
 -- some of the chunk is read, and it ends
-pub done_stage : (e : ElemStage) (s : Carried) (c : Chunk) (count : ℕ) (v : Result) (r : Option Chunk) → IsTrue (is_cut e.sort) → e.told ≡ false → e.keep ≡ None → IsWithin e → c.0 ≡ e.sort
+pub done_stage : (e : ElemStage) (s : Carried) (c : Chunk) (count : ℕ) (v : Result) (r : Option Chunk) → IsTrue (is_cut e.sort) → e.told ≡ false → e.keep ≡ None → KeepsBounds e → c.0 ≡ e.sort
     → IsPlan e.sort s c.1 (plan.End v count) (carried e) → IsChunkOf e.sort (drop count c.1) r → Goes (Done v r) (seen_from s c e) (seen_stage (record e { stand = Over }))
 done_stage e s c count v r h t k i j p b = record {
   is_at = refl;
@@ -211,7 +211,7 @@ sort_of_kind Sort.Chars = refl
 sort_of_kind Sort.Block = refl
 sort_of_kind Sort.Text = refl
 
-pub plain_state : (s : State) → ((n : ℕ) → s ≡ state.Collect n → ⊥) → (s ≡ state.SinkNull → ⊥) → IsPlain s
+pub plain_state : (s : WordState) → ((n : ℕ) → s ≡ state.Collect n → ⊥) → (s ≡ state.SinkNull → ⊥) → IsPlain s
 plain_state state.Pass g h = tt
 plain_state (state.Take n) g h = tt
 plain_state (state.TakeWhile c) g h = tt
@@ -231,7 +231,7 @@ plain_state (state.Collect n) g h = absurd (g n refl)
 plain_state state.SinkNull g h = absurd (h refl)
 
 -- what it carries then is of the same word
-pub read_from : (e : ElemStage) (st : State) (l : _) (c : Chunk) (m : Move) (f : ElemStage) → e.told ≡ false → gives_of st e.sort ≡ gives_of e.state e.sort
+pub read_from : (e : ElemStage) (st : WordState) (l : _) (c : Chunk) (m : Move) (f : ElemStage) → e.told ≡ false → gives_of st e.sort ≡ gives_of e.state e.sort
     → Goes m (seen_from (carried e) c (record e { state = st; list = l })) (seen_stage f) → Went (with_chunk c e) m f
 read_from e st l c m f t g h =
     let w = word_scan e.sort in
@@ -254,7 +254,7 @@ sink_stage e c t k h =
 
 -- ---- with nothing unread
 
-pub asks_ready : (k : Sort) (s : State) (l : List ℕ) → asks_of s ≡ true → state_ready k s l ≡ None
+pub asks_ready : (k : Sort) (s : WordState) (l : List ℕ) → asks_of s ≡ true → state_ready k s l ≡ None
 asks_ready k (state.Take zero) l h = cc
 asks_ready k (state.Take (suc n)) l h = refl
 asks_ready k (state.Drop zero) l h = cc
@@ -276,7 +276,7 @@ asks_ready k (state.All c a) l h = refl
 asks_ready k state.Null l h = refl
 asks_ready k state.SinkNull l h = refl
 
-ready_value : (k : Sort) (s : State) (l : List ℕ) → asks_of s ≡ false → state_ready k s l ≡ Some (state_value k s l)
+ready_value : (k : Sort) (s : WordState) (l : List ℕ) → asks_of s ≡ false → state_ready k s l ≡ Some (state_value k s l)
 ready_value k (state.Take zero) l h = refl
 ready_value k (state.Take (suc n)) l h = cc
 ready_value k (state.Drop zero) l h = refl
@@ -302,7 +302,7 @@ pub ask_stage : (e : ElemStage) → e.told ≡ false → e.keep ≡ None → ask
 ask_stage e t k h =
     rw (t, k) (need_law (word_scan e.sort) (part_at e.stand) (grade_of e.sort) (gives_of e.state e.sort) (Some (kind_of e.sort)) _ _ _ [] (carried e) (carried e) refl (asks_ready e.sort e.state (gathered e.list) h))
 
-pub final_stage : (e : ElemStage) (m : Move) (f : ElemStage) → e.told ≡ false → e.keep ≡ None → asks_of e.state ≡ false → IsFinal e m → f.stand ≡ Over → f.told ≡ e.told → IsSameStage e f → IsWithin f → Went e m f
+pub final_stage : (e : ElemStage) (m : Move) (f : ElemStage) → e.told ≡ false → e.keep ≡ None → asks_of e.state ≡ false → IsFinal e m → f.stand ≡ Over → f.told ≡ e.told → IsSameStage e f → KeepsBounds f → Went e m f
 final_stage e (Done v None) f t k h i o u s g = record {
   is_at = ap part_at o;
   floor = rw u (floor_told (word_scan f.sort) e.told (carried f) (carried f) [] (rest_items f.keep)) ∙ floor_same e.told;
@@ -321,7 +321,7 @@ final_stage e (Faulted x) f t k h i o u s g = absurd i
 
 -- ---- whole steps
 
-pub told_not : (s : Stand) (told : Bool) (k : Sort) (st : State) (l : List ℕ) (keep : Option Chunk) (i : Input) → AnswersAt (part_at s) (Some (kind_of k)) i → StandFits s told k st l keep → told ≡ false
+pub told_not : (s : Stand) (told : Bool) (k : Sort) (st : WordState) (l : List ℕ) (keep : Option Chunk) (i : Input) → AnswersAt (part_at s) (Some (kind_of k)) i → StandFits s told k st l keep → told ≡ false
 told_not Fresh told k st l keep i a f = f.0
 told_not Wait told k st l keep i a f = f.0
 told_not Gave told k st l keep i a f = f
@@ -352,7 +352,7 @@ chunk_step e i c m f h g a w s =
           (subst (λ x. Goes m (part_of x (grade_of e.sort) gives takes room (held_of (with_chunk c e)) (scan_rest wd false (carried e) (items c))) (seen_stage f)) o
           (subst (λ b. Goes m (part_of (part_at e.stand) (grade_of e.sort) gives takes room (held_of (with_chunk c e)) (scan_rest wd b (carried e) (items c))) (seen_stage f)) t w)) p)
 
-pub end_step : (e : ElemStage) (i : Input) (m : Move) (f : ElemStage) → i ≡ TheEnd → stage_fits e → AnswersAt (part_at e.stand) (Some (kind_of e.sort)) i → IsFinal (record e { told = true }) m → f.stand ≡ Over → f.told ≡ true → IsSameStage e f → IsWithin f
+pub end_step : (e : ElemStage) (i : Input) (m : Move) (f : ElemStage) → i ≡ TheEnd → stage_fits e → AnswersAt (part_at e.stand) (Some (kind_of e.sort)) i → IsFinal (record e { told = true }) m → f.stand ≡ Over → f.told ≡ true → IsSameStage e f → KeepsBounds f
     → Stepped (seen_stage e) i m (seen_stage f)
 end_step e i (Done v None) f h g a n o u s b =
     let a1 = subst (AnswersAt (part_at e.stand) (Some (kind_of e.sort))) h a in

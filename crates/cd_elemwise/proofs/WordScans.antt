@@ -5,33 +5,33 @@ use Rattle.cd_elem.specs.declared.word.Class.{Class}
 use Rattle.cd_elem.specs.declared.word.ElemWord.{ElemWord}
 use Rattle.cd_meaning.specs.Stream.{Sort, Item, Value, absent, present, End, Done, Act, Out}
 use Rattle.cd_meaning.specs.Run.{stamp, Run, Ends}
-use Rattle.cd_meaning.specs.Words.{Seen, number, passes, drops}
+use Rattle.cd_meaning.specs.RunShapes.{Seen, number, passes, drops}
 use Rattle.cd_meaning.specs.Classes.{of_class, of_element, is_named}
 use Rattle.cd_meaning.specs.Sorts.{value_of, list_of}
 use Rattle.cd_meaning.specs.ElementWords.{kept, head, latest, collected, all_from, any_from}
 use Rattle.cd_meaning.specs.Scan.{Go, replied, scan}
 use Rattle.cd_meaning.specs.WordMeanings.{element_word}
-use Rattle.cd_meaning.proofs.Scanned.{carried as carried_by, scan_by, scan_ready}
-use Rattle.cd_meaning.proofs.WordRuns.{past_closed, each_scan, first_scan, while_scan, while_reply}
-use Rattle.cd_meaning.proofs.ElementRuns.{passed_is_scan, filtered_is_scan, mapped_is_scan, repeated_is_scan, ignored_is_scan, taken_while_is_scan, dropped_while_is_scan, taken_is_scan, dropped_is_scan, collected_is_scan, left_scan, latest_is_scan, latest_scan, latest_value, counted_is_scan, counted_scan, summed_is_scan, summed_scan, peek_is_scan, peek_scan, none_is_scan, none_scan}
-use Rattle.cd_meaning.proofs.OwnMoves.{scan_fresh}
+use Rattle.cd_meaning.proofs.Runs.Scans.{carried as carried_by, scan_by, scan_ready}
+use Rattle.cd_meaning.proofs.Runs.Shapes.{past_closed, each_scan, first_scan, while_scan, while_reply}
+use Rattle.cd_meaning.proofs.Runs.Elements.{passed_is_scan, filtered_is_scan, mapped_is_scan, repeated_is_scan, ignored_is_scan, taken_while_is_scan, dropped_while_is_scan, taken_is_scan, dropped_is_scan, collected_is_scan, left_scan, latest_is_scan, latest_scan, latest_value, counted_is_scan, counted_scan, summed_is_scan, summed_scan, peek_is_scan, peek_scan, none_is_scan, none_scan}
+use Rattle.cd_meaning.proofs.Moves.Own.{scan_fresh}
 use Rattle.cd_step.specs.Reading.{scan_rest}
-use Rattle.cd_elemwise.specs.declared.state.State.{State}
-use Rattle.cd_elemwise.specs.declared.state.State.TheVariants as state
-use Rattle.cd_elemwise.specs.Words.{Carried, Doing, Answered, HasType, first_state, opposite, or_back, or_answer, bound_of, list_value, single_of, state_ready, state_step, state_value, word_scan}
+use Rattle.cd_elemwise.specs.declared.state.WordState.{WordState}
+use Rattle.cd_elemwise.specs.declared.state.WordState.TheVariants as state
+use Rattle.cd_elemwise.specs.Carried.{Carried, Doing, Answered, HasType, first_state, opposite, or_back, or_answer, bound_of, list_value, single_of, state_ready, state_step, state_value, word_scan}
 use Rattle.cd_elemwise.specs.Stages.{StateFits, may_carry}
 
 -- the run of a state with an empty list
-abbrev from_state : Sort → State → List Item → End → Run
+abbrev from_state : Sort → WordState → List Item → End → Run
 from_state k st xs e = scan (word_scan k) 0 (Doing st []) xs e
 
 -- ---- each word
 
-each_by : (k : Sort) (st : State) (f : Item → List Act) → ((x : Item) → state_step k st [] x ≡ Go (f x) (Doing st [])) → state_ready k st [] ≡ None → state_value k st [] ≡ Value.Unit
+each_by : (k : Sort) (st : WordState) (f : Item → List Act) → ((x : Item) → state_step k st [] x ≡ Go (f x) (Doing st [])) → state_ready k st [] ≡ None → state_value k st [] ≡ Value.Unit
     → (xs : List Item) (e : End) → scan (each_scan f) 0 tt xs e ≡ from_state k st xs e
 each_by k st f h r v xs e = scan_by (each_scan f) (word_scan k) (λ s. Doing st []) (λ s. sym r) (λ s x. sym (h x)) (λ s. refl) (λ s. ap Done (sym v)) 0 tt xs e
 
-left_by : (k : Sort) (f : Item → List Act) (st : ℕ → State)
+left_by : (k : Sort) (f : Item → List Act) (st : ℕ → WordState)
     → ((n : ℕ) → (left_scan f).ready n ≡ state_ready k (st n) []) → ((n : ℕ) (x : Item) → carried_by (λ s. Doing (st s) []) ((left_scan f).step n x) ≡ state_step k (st n) [] x) → ((n : ℕ) → state_value k (st n) [] ≡ Value.Unit)
     → (n : ℕ) (xs : List Item) (e : End) → scan (left_scan f) 0 n xs e ≡ from_state k (st n) xs e
 left_by k f st r h v n xs e = scan_by (left_scan f) (word_scan k) (λ s. Doing (st s) []) r h (λ s. refl) (λ s. ap Done (sym (v s))) 0 n xs e
@@ -141,7 +141,7 @@ collect_by k h n xs e =
     collected_is_scan (list_of k) n xs e
     ∙ scan_by (first_scan drops (list_of k)) (word_scan k) list_state (λ s. collect_ready k h s.0 s.1) (λ s x. collect_step k s.0 s.1 x) (λ s. refl) (λ s. ap Done (list_value_is k s.1 h)) 0 (n, []) xs e
 
-while_to : (k : Sort) (c : Class) (f : Item → List Act) (st : State) → state_ready k st [] ≡ None → ((x : Item) → or_back (of_class c x) (f x) (Doing st []) ≡ state_step k st [] x) → state_value k st [] ≡ Value.Unit
+while_to : (k : Sort) (c : Class) (f : Item → List Act) (st : WordState) → state_ready k st [] ≡ None → ((x : Item) → or_back (of_class c x) (f x) (Doing st []) ≡ state_step k st [] x) → state_value k st [] ≡ Value.Unit
     → (xs : List Item) (e : End) → scan (while_scan (of_class c) f) 0 tt xs e ≡ from_state k st xs e
 while_to k c f st r h v xs e = scan_by (while_scan (of_class c) f) (word_scan k) (λ s. Doing st []) (λ s. sym r) (λ s x. while_by (of_class c x) f x (Doing st []) ∙ h x) (λ s. refl) (λ s. ap Done (sym v)) 0 tt xs e
 

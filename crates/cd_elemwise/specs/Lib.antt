@@ -1,4 +1,4 @@
 pub mod Plans
 pub mod Stages
 pub mod Tables
-pub mod Words
+pub mod Carried

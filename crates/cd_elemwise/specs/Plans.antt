@@ -3,12 +3,12 @@ use Rattle.std.specs.Prelude.{◌≡◌, ℕ, ◌<◌, ◌≤◌, List, map, tak
 use Rattle.cd_meaning.specs.Stream.{Sort, Elem, Out}
 use Rattle.cd_meaning.specs.Values.{value_meaning}
 use Rattle.cd_step.specs.Reading.{IsRead, IsSilent, IsDone}
-use Rattle.cd_elemwise.specs.declared.plan.Plan.{Plan}
-use Rattle.cd_elemwise.specs.declared.plan.Plan.TheVariants.{Need, Pass, Give, End}
-use Rattle.cd_elemwise.specs.Words.{Carried, Emits, carried_ready, word_scan}
+use Rattle.cd_elemwise.specs.declared.plan.ChunkPlan.{ChunkPlan}
+use Rattle.cd_elemwise.specs.declared.plan.ChunkPlan.TheVariants.{Need, Pass, Give, End}
+use Rattle.cd_elemwise.specs.Carried.{Carried, Emits, carried_ready, word_scan}
 
 -- From s it does so with these elements. Where it goes on, it then carries t.
-abbrev pub IsPlan : Sort → Carried → List ℕ → Plan → Carried → Type 0
+abbrev pub IsPlan : Sort → Carried → List ℕ → ChunkPlan → Carried → Type 0
 IsPlan k s numbers Need t = IsSilent (word_scan k) s (map Elem numbers) t × (carried_ready k t ≡ None)
 IsPlan k s numbers (Pass count) t =
     Emits k t × (0 < count) × (count ≤ length numbers)

@@ -4,8 +4,8 @@ ghost use Rattle.std.specs.List.{prefix_len, flat_map};
 ghost use Rattle.cd_elem.specs.Chunks.{is_cut};
 ghost use Rattle.cd_elem.specs.declared.kind.Sort.TheVariants as sort;
 ghost use Rattle.cd_meaning.specs.Classes.{is_in_class, element_mapped};
-ghost use Rattle.cd_meaning.specs.Words.{as_count};
-ghost use Rattle.cd_elemwise.specs.Words.{IsElements, MapFits, IsChunkOf, single_of};
+ghost use Rattle.cd_meaning.specs.RunShapes.{as_count};
+ghost use Rattle.cd_elemwise.specs.Carried.{IsElements, MapFits, IsChunkOf, single_of};
 
 use crate::element::Element;
 use crate::slice::{front, mapped, passing, repeated, sum_behind};
@@ -14,19 +14,19 @@ use cd_elem::{ByteMap, Chunk, Class, Items, NoMemory};
 use std::alloc::Global;
 
 /// The elements of a chunk.
-pub enum Elements<'a> {
+pub enum ElementSlice<'a> {
     Bytes(&'a [u8]),
     Chars(&'a [char]),
 }
 
-pub fn elements_of(chunk: &Chunk) -> Elements<'_>
+pub fn elements_of(chunk: &Chunk) -> ElementSlice<'_>
     requires { IsTrue (is_cut chunk.now.0) }
     ensures { IsElements result chunk.now }
 {
     match chunk.as_bytes() {
-        Some(bytes) => Elements::Bytes(bytes),
+        Some(bytes) => ElementSlice::Bytes(bytes),
         None => match chunk.as_chars() {
-            Some(chars) => Elements::Chars(chars),
+            Some(chars) => ElementSlice::Chars(chars),
             None => unreachable!(),
         },
     }
@@ -39,8 +39,8 @@ pub fn front_of(class: Class, chunk: &Chunk) -> usize
     ensures within { result ≤ length chunk.now.1 }
 {
     match elements_of(chunk) {
-        Elements::Bytes(bytes) => front(class, bytes),
-        Elements::Chars(chars) => front(class, chars),
+        ElementSlice::Bytes(bytes) => front(class, bytes),
+        ElementSlice::Chars(chars) => front(class, chars),
     }
 }
 
@@ -62,11 +62,11 @@ pub fn passing_of(alloc: Global, class: Class, chunk: &Chunk) -> Result<Option<C
 {
     let some = chunk.len();
     match elements_of(chunk) {
-        Elements::Bytes(bytes) => {
+        ElementSlice::Bytes(bytes) => {
             let list = passing(alloc, class, bytes)?;
             Ok(some_chunk(list))
         }
-        Elements::Chars(chars) => {
+        ElementSlice::Chars(chars) => {
             let list = passing(alloc, class, chars)?;
             Ok(some_chunk(list))
         }
@@ -80,11 +80,11 @@ pub fn mapped_of(alloc: Global, by: ByteMap, chunk: &Chunk) -> Result<Chunk, NoM
 {
     let some = chunk.len();
     match elements_of(chunk) {
-        Elements::Bytes(bytes) => {
+        ElementSlice::Bytes(bytes) => {
             let list = mapped(alloc, by, bytes)?;
             Ok(u8::chunk_of(list))
         }
-        Elements::Chars(chars) => {
+        ElementSlice::Chars(chars) => {
             let list = mapped(alloc, by, chars)?;
             Ok(char::chunk_of(list))
         }
@@ -106,11 +106,11 @@ pub fn repeated_of(
     ensures { IfOk result (λ made. made ≡ (chunk.now.0, flat_map (λ x. replicate times x) (take count chunk.now.1))) }
 {
     match elements_of(chunk) {
-        Elements::Bytes(bytes) => {
+        ElementSlice::Bytes(bytes) => {
             let list = repeated(alloc, times, &bytes[..count])?;
             Ok(u8::chunk_of(list))
         }
-        Elements::Chars(chars) => {
+        ElementSlice::Chars(chars) => {
             let list = repeated(alloc, times, &chars[..count])?;
             Ok(char::chunk_of(list))
         }
@@ -136,8 +136,8 @@ pub fn single_at(chunk: &Chunk, place: usize) -> Single
     ensures { (d : ℕ) → result ≡ single_of chunk.now.0 (get_or chunk.now.1 place d) }
 {
     match elements_of(chunk) {
-        Elements::Bytes(bytes) => Single::Byte(bytes[place]),
-        Elements::Chars(chars) => Single::Char(chars[place]),
+        ElementSlice::Bytes(bytes) => Single::Byte(bytes[place]),
+        ElementSlice::Chars(chars) => Single::Char(chars[place]),
     }
 }
 

@@ -1,7 +1,7 @@
 // Classes and maps of elements, by their numbers.
 ghost use Rattle.std.specs.Prelude.{◌≡◌, ◌+◌, ◌<◌, ◌≤◌};
 ghost use Rattle.cd_meaning.specs.Classes.{from_to, is_named, is_in_class, element_mapped, rot13, turned};
-ghost use Rattle.cd_elemwise.specs.Words.{IsLetters};
+ghost use Rattle.cd_elemwise.specs.Carried.{IsLetters};
 
 use cd_elem::{ByteMap, Class, ClassName};
 

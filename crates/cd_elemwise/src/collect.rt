@@ -2,12 +2,12 @@
 ghost use Rattle.std.specs.Prelude.{◌≡◌, ◌+◌, ◌≤◌, ◌++◌, [], IfOk, OnOk, OnErr, IsTrue, length, take};
 ghost use Rattle.cd_elem.specs.Chunks.{is_cut};
 ghost use Rattle.cd_meaning.specs.Values.{value_meaning};
-ghost use Rattle.cd_elemwise.specs.Words.{Doing, gathered, list_sort, list_value};
+ghost use Rattle.cd_elemwise.specs.Carried.{Doing, gathered, list_sort, list_value};
 ghost use Rattle.cd_elemwise.specs.Plans.{IsPlan};
-ghost use Rattle.cd_elemwise.specs.declared.state.State.TheVariants as state;
+ghost use Rattle.cd_elemwise.specs.declared.state.WordState.TheVariants as state;
 
-use crate::chunks::{Elements, elements_of};
-use crate::plan::Plan;
+use crate::chunks::{ElementSlice, elements_of};
+use crate::plan::ChunkPlan;
 use crate::state::Gathered;
 use cd_elem::{Chunk, Items, NoMemory, Value};
 use std::alloc::Global;
@@ -23,8 +23,12 @@ fn gather(list: &mut Gathered, chunk: &Chunk, count: usize) -> Result<(), NoMemo
     ensures sort { list_sort list.new ≡ list_sort list.old }
 {
     match (list, elements_of(chunk)) {
-        (Gathered::Bytes(all), Elements::Bytes(bytes)) => all.extend_from_slice(&bytes[..count]),
-        (Gathered::Chars(all), Elements::Chars(chars)) => all.extend_from_slice(&chars[..count]),
+        (Gathered::Bytes(all), ElementSlice::Bytes(bytes)) => all.extend_from_slice(
+            &bytes[..count],
+        ),
+        (Gathered::Chars(all), ElementSlice::Chars(chars)) => all.extend_from_slice(
+            &chars[..count],
+        ),
         (_, _) => unreachable!(),
     }
 }
@@ -47,7 +51,7 @@ pub fn collect(
     list: &mut Gathered,
     left: u64,
     chunk: &Chunk,
-) -> Result<(u64, Plan), NoMemory>
+) -> Result<(u64, ChunkPlan), NoMemory>
     requires cut { IsTrue (is_cut chunk.now.0) }
     requires sort { list_sort list.old ≡ chunk.now.0 }
     ensures law { IfOk result (λ made. IsPlan chunk.now.0 (Doing (state.Collect left) (gathered list.old)) chunk.now.1 made.1 (Doing (state.Collect made.0) (gathered list.new))) }
@@ -59,8 +63,8 @@ pub fn collect(
     let len = chunk.len();
     if (len as u64) < left {
         gather(list, chunk, len)?;
-        return Ok((left - len as u64, Plan::Need));
+        return Ok((left - len as u64, ChunkPlan::Need));
     }
     gather(list, chunk, left as usize)?;
-    Ok((0, Plan::End(collected(alloc, list), left as usize)))
+    Ok((0, ChunkPlan::End(collected(alloc, list), left as usize)))
 }

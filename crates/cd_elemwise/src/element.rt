@@ -4,7 +4,7 @@ ghost use Rattle.cd_elem.specs.declared.kind.Sort.{Sort};
 ghost use Rattle.cd_elem.specs.declared.kind.Sort.TheVariants as sort;
 ghost use Rattle.cd_elem.specs.declared.word.ByteMap.{ByteMap};
 ghost use Rattle.cd_meaning.specs.Classes.{element_mapped};
-ghost use Rattle.cd_elemwise.specs.Words.{IsLetters};
+ghost use Rattle.cd_elemwise.specs.Carried.{IsLetters};
 
 use crate::class::{map_byte, map_char};
 use cd_elem::{ByteMap, Chunk, Items};

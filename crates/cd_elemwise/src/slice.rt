@@ -2,7 +2,7 @@
 ghost use Rattle.std.specs.Prelude.{◌≡◌, ◌+◌, ◌*◌, ◌<◌, ◌≤◌, ℕ, IfOk, OnOk, ◌++◌, length, map, filter, replicate, sum};
 ghost use Rattle.std.specs.List.{prefix_len, flat_map};
 ghost use Rattle.cd_meaning.specs.Classes.{is_in_class, element_mapped};
-ghost use Rattle.cd_meaning.specs.Words.{as_count};
+ghost use Rattle.cd_meaning.specs.RunShapes.{as_count};
 
 use crate::class_table::ClassTable;
 use crate::element::Element;

@@ -2,20 +2,20 @@
 ghost use Rattle.std.specs.Prelude.{◌≡◌, ◌≤◌, ◌+◌, ℕ, List, IfOk, OnErr, IsTrue, None, Some, false, true, length, []};
 ghost use Rattle.cd_elem.specs.Chunks.{is_cut};
 ghost use Rattle.cd_meaning.specs.Stream.{End, Item};
-ghost use Rattle.cd_meaning.specs.Words.{Seen};
+ghost use Rattle.cd_meaning.specs.RunShapes.{Seen};
 ghost use Rattle.cd_meaning.specs.WordMeanings.{word_meaning};
 ghost use Rattle.cd_elem.specs.declared.word.Word.TheVariants as words;
 ghost use Rattle.cd_step.specs.Parts.{Goes, Fresh};
 ghost use Rattle.cd_step.specs.declared.protocol.Stand.TheVariants as stand;
-ghost use Rattle.cd_elemwise.specs.Words.{Carried, HasType, bound_of, first_state, gathered, gives_of, kind_of, list_sort, opposite, state_value};
+ghost use Rattle.cd_elemwise.specs.Carried.{Carried, HasType, bound_of, first_state, gathered, gives_of, kind_of, list_sort, opposite, state_value};
 ghost use Rattle.cd_elemwise.specs.Plans.{IsPlan};
-ghost use Rattle.cd_elemwise.specs.Stages.{asks_of, carried, seen_stage, stage_fits, stage_most, with_chunk, held_of, seen_from, IsFinal, IsPlanned, IsSameStage, IsWithin, StateFits, Went};
+ghost use Rattle.cd_elemwise.specs.Stages.{asks_of, carried, seen_stage, stage_fits, stage_most, with_chunk, held_of, seen_from, IsFinal, IsPlanned, IsSameStage, KeepsBounds, StateFits, Went};
 ghost use Rattle.cd_meaning.specs.Values.{value_meaning};
 
 use crate::chunks::behind;
 use crate::collect::{collect, collected};
-use crate::plan::{Plan, planned};
-use crate::state::{Gathered, State, present_of};
+use crate::plan::{ChunkPlan, planned};
+use crate::state::{Gathered, WordState, present_of};
 use cd_elem::{Chunk, Class, ElemWord, Items, NoMemory, Sort, Value};
 use cd_step::{Input, Move, Stage, Stand, weight_of};
 use std::alloc::Global;
@@ -30,17 +30,17 @@ pub struct ElemStage {
     sort: Sort,
     // the bound of the word
     most: u64,
-    state: State,
+    state: WordState,
     list: Gathered,
     // what is unread of the last chunk
     keep: Option<Chunk>,
 }
 
-fn asks(state: State) -> bool
+fn asks(state: WordState) -> bool
     ensures { result ≡ asks_of state }
 {
     match state {
-        State::Take(left) | State::Drop(left) | State::Collect(left) => left != 0,
+        WordState::Take(left) | WordState::Drop(left) | WordState::Collect(left) => left != 0,
         _ => true,
     }
 }
@@ -49,27 +49,27 @@ impl ElemStage {
     /// The value with which it ends, where it asks for nothing more or was told the end.
     fn value(&mut self, alloc: Global) -> Result<Value, NoMemory>
         requires listed { StateFits self.old.state self.old.sort (list_sort self.old.list) }
-        requires within { IsWithin self.old }
+        requires within { KeepsBounds self.old }
         ensures law { IfOk result (λ value. value_meaning value ≡ state_value self.old.sort self.old.state (gathered self.old.list)) }
         ensures same { IsSameStage self.old self.new }
         ensures fits { StateFits self.new.state self.new.sort (list_sort self.new.list) }
-        ensures within { IsWithin self.new }
+        ensures within { KeepsBounds self.new }
         ensures keep { self.new.keep ≡ self.old.keep }
         ensures told { self.new.told ≡ self.old.told }
         ensures err { OnErr result (self.new ≡ self.old) }
     {
         match self.state {
-            State::Head | State::Peek | State::Last(None) => Ok(Value::Maybe(None)),
-            State::Last(Some(single)) => {
+            WordState::Head | WordState::Peek | WordState::Last(None) => Ok(Value::Maybe(None)),
+            WordState::Last(Some(single)) => {
                 let value = present_of(alloc, single)?;
-                self.state = State::Last(None);
+                self.state = WordState::Last(None);
                 Ok(value)
             }
-            State::Length(count) => Ok(Value::Num(count)),
-            State::Sum(total) => Ok(Value::Num(total)),
-            State::All(_, answer) => Ok(Value::Bool(!answer)),
-            State::Null => Ok(Value::Bool(true)),
-            State::Collect(_) => Ok(collected(alloc, &mut self.list)),
+            WordState::Length(count) => Ok(Value::Num(count)),
+            WordState::Sum(total) => Ok(Value::Num(total)),
+            WordState::All(_, answer) => Ok(Value::Bool(!answer)),
+            WordState::Null => Ok(Value::Bool(true)),
+            WordState::Collect(_) => Ok(collected(alloc, &mut self.list)),
             _ => Ok(Value::Unit),
         }
     }
@@ -77,12 +77,12 @@ impl ElemStage {
     /// It ends with its value, and gives nothing back.
     fn finish(&mut self, alloc: Global) -> Result<Move, NoMemory>
         requires listed { StateFits self.old.state self.old.sort (list_sort self.old.list) }
-        requires within { IsWithin self.old }
+        requires within { KeepsBounds self.old }
         ensures law { IfOk result (IsFinal self.old) }
         ensures stand { IfOk result (λ made. self.new.stand ≡ stand.Over) }
         ensures same { IsSameStage self.old self.new }
         ensures fits { StateFits self.new.state self.new.sort (list_sort self.new.list) }
-        ensures within { IsWithin self.new }
+        ensures within { KeepsBounds self.new }
         ensures keep { self.new.keep ≡ self.old.keep }
         ensures told { self.new.told ≡ self.old.told }
         ensures err { OnErr result (self.new ≡ self.old) }
@@ -97,11 +97,11 @@ impl ElemStage {
         requires told { self.old.told ≡ false }
         requires keep { self.old.keep ≡ None }
         requires listed { StateFits self.old.state self.old.sort (list_sort self.old.list) }
-        requires within { IsWithin self.old }
+        requires within { KeepsBounds self.old }
         ensures law { IfOk result (λ made. Went self.old made self.new) }
         ensures fit { IfOk result (λ made. stage_fits self.new) }
         ensures same { IsSameStage self.old self.new }
-        ensures within { IsWithin self.new }
+        ensures within { KeepsBounds self.new }
         ensures err { OnErr result (self.new ≡ self.old) }
     {
         if asks(self.state) {
@@ -113,11 +113,11 @@ impl ElemStage {
     }
 
     /// It does with its chunk what was planned.
-    fn act(&mut self, alloc: Global, mut chunk: Chunk, plan: Plan) -> Result<Move, NoMemory>
+    fn act(&mut self, alloc: Global, mut chunk: Chunk, plan: ChunkPlan) -> Result<Move, NoMemory>
         requires told { self.old.told ≡ false }
         requires keep { self.old.keep ≡ None }
         requires listed { StateFits self.old.state self.old.sort (list_sort self.old.list) }
-        requires within { IsWithin self.old }
+        requires within { KeepsBounds self.old }
         requires cut { IsTrue (is_cut self.old.sort) }
         requires sort { chunk.0 ≡ self.old.sort }
         requires planned { IsPlanned self.old chunk plan }
@@ -126,17 +126,17 @@ impl ElemStage {
         ensures same { IsSameStage self.old self.new }
         ensures state { self.new.state ≡ self.old.state }
         ensures list { self.new.list ≡ self.old.list }
-        ensures within { IsWithin self.new }
+        ensures within { KeepsBounds self.new }
         ensures err { OnErr result (self.new.keep ≡ None) }
     {
         let len = chunk.len();
         match plan {
-            Plan::Need => {
+            ChunkPlan::Need => {
                 drop(chunk);
                 self.stand = Stand::Wait;
                 Ok(Move::Need)
             }
-            Plan::Pass(count) => {
+            ChunkPlan::Pass(count) => {
                 self.stand = Stand::Gave;
                 if count == len {
                     return Ok(Move::Emit(chunk));
@@ -145,12 +145,12 @@ impl ElemStage {
                 self.keep = Some(chunk);
                 Ok(Move::Emit(first))
             }
-            Plan::Give(made, count) => {
+            ChunkPlan::Give(made, count) => {
                 self.stand = Stand::Gave;
                 self.keep = behind(chunk, count);
                 Ok(Move::Emit(made))
             }
-            Plan::End(value, count) => {
+            ChunkPlan::End(value, count) => {
                 self.stand = Stand::Over;
                 Ok(Move::Done {
                     value,
@@ -165,22 +165,22 @@ impl ElemStage {
         requires told { self.old.told ≡ false }
         requires keep { self.old.keep ≡ None }
         requires listed { StateFits self.old.state self.old.sort (list_sort self.old.list) }
-        requires within { IsWithin (with_chunk chunk self.old) }
+        requires within { KeepsBounds (with_chunk chunk self.old) }
         ensures law { IfOk result (λ made. Went (with_chunk chunk self.old) made self.new) }
         ensures fit { IfOk result (λ made. stage_fits self.new) }
         ensures same { IsSameStage self.old self.new }
-        ensures within { IsWithin self.new }
+        ensures within { KeepsBounds self.new }
         ensures err { OnErr result (held_of self.new ≤ held_of (with_chunk chunk self.old)) }
     {
         match self.state {
-            State::SinkNull => {
+            WordState::SinkNull => {
                 drop(chunk);
                 self.stand = Stand::Wait;
                 Ok(Move::Need)
             }
-            State::Collect(left) => {
+            WordState::Collect(left) => {
                 let (left, plan) = collect(alloc, &mut self.list, left, &chunk)?;
-                self.state = State::Collect(left);
+                self.state = WordState::Collect(left);
                 let made = self.act(alloc, chunk, plan)?;
                 Ok(made)
             }
@@ -196,11 +196,11 @@ impl ElemStage {
     fn go(&mut self, alloc: Global) -> Result<Move, NoMemory>
         requires told { self.old.told ≡ false }
         requires listed { StateFits self.old.state self.old.sort (list_sort self.old.list) }
-        requires within { IsWithin self.old }
+        requires within { KeepsBounds self.old }
         ensures law { IfOk result (λ made. Went self.old made self.new) }
         ensures fit { IfOk result (λ made. stage_fits self.new) }
         ensures same { IsSameStage self.old self.new }
-        ensures within { IsWithin self.new }
+        ensures within { KeepsBounds self.new }
         ensures err { OnErr result (held_of self.new ≤ held_of self.old) }
     {
         match self.keep.take() {
@@ -248,7 +248,7 @@ impl Stage for ElemStage {
 
     fn held(&self) -> u64 {
         let carried = match self.state {
-            State::Last(Some(_)) => 1,
+            WordState::Last(Some(_)) => 1,
             _ => 0,
         };
         let listed = match &self.list {
@@ -281,28 +281,28 @@ fn opposite_of(class: Class) -> Class
     }
 }
 
-fn state_of(word: ElemWord) -> State
+fn state_of(word: ElemWord) -> WordState
     ensures { result ≡ first_state word }
 {
     match word {
-        ElemWord::PassE => State::Pass,
-        ElemWord::TakeE(count) => State::Take(count),
-        ElemWord::TakeWhileE(class) => State::TakeWhile(class),
-        ElemWord::FilterE(class) => State::Filter(class),
-        ElemWord::MapE(by) => State::Map(by),
-        ElemWord::RepeatE(times) => State::Repeat(times),
-        ElemWord::DropE(count) => State::Drop(count),
-        ElemWord::DropWhileE(class) => State::DropWhile(class),
-        ElemWord::HeadE => State::Head,
-        ElemWord::PeekE => State::Peek,
-        ElemWord::LastE => State::Last(None),
-        ElemWord::LengthE => State::Length(0),
-        ElemWord::SumE => State::Sum(0),
-        ElemWord::AllE(class) => State::All(class, false),
-        ElemWord::AnyE(class) => State::All(opposite_of(class), true),
-        ElemWord::NullE => State::Null,
-        ElemWord::CollectE(count) => State::Collect(count),
-        ElemWord::SinkNull => State::SinkNull,
+        ElemWord::PassE => WordState::Pass,
+        ElemWord::TakeE(count) => WordState::Take(count),
+        ElemWord::TakeWhileE(class) => WordState::TakeWhile(class),
+        ElemWord::FilterE(class) => WordState::Filter(class),
+        ElemWord::MapE(by) => WordState::Map(by),
+        ElemWord::RepeatE(times) => WordState::Repeat(times),
+        ElemWord::DropE(count) => WordState::Drop(count),
+        ElemWord::DropWhileE(class) => WordState::DropWhile(class),
+        ElemWord::HeadE => WordState::Head,
+        ElemWord::PeekE => WordState::Peek,
+        ElemWord::LastE => WordState::Last(None),
+        ElemWord::LengthE => WordState::Length(0),
+        ElemWord::SumE => WordState::Sum(0),
+        ElemWord::AllE(class) => WordState::All(class, false),
+        ElemWord::AnyE(class) => WordState::All(opposite_of(class), true),
+        ElemWord::NullE => WordState::Null,
+        ElemWord::CollectE(count) => WordState::Collect(count),
+        ElemWord::SinkNull => WordState::SinkNull,
     }
 }
 

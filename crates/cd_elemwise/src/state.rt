@@ -1,7 +1,7 @@
 // What a word carries from one element to the next.
 ghost use Rattle.std.specs.Prelude.{◌≡◌, [], ◌++◌, length, IfOk, OnOk, OnErr};
 ghost use Rattle.cd_meaning.specs.Values.{value_meaning};
-ghost use Rattle.cd_elemwise.specs.Words.{gathered, list_sort, list_value, single_plain, single_value};
+ghost use Rattle.cd_elemwise.specs.Carried.{gathered, list_sort, list_value, single_plain, single_value};
 
 use cd_elem::{Boxed, ByteList, ByteMap, CharList, Class, NoMemory, Value};
 use std::alloc::Global;
@@ -16,7 +16,7 @@ pub enum Single {
 
 /// A word with what is left of its number, or what it carries beside a list.
 #[derive(Clone, Copy)]
-pub enum State {
+pub enum WordState {
     Pass,
     Take(u64),
     TakeWhile(Class),

@@ -18,20 +18,20 @@ use Rattle.cd_elem.specs.declared.word.Word.{Word}
 use Rattle.cd_elem.specs.declared.word.Word.TheVariants as word
 use Rattle.cd_elem.specs.declared.word.SourceWord.TheVariants as source
 use Rattle.cd_elem.specs.declared.word.SinkWord.TheVariants as sink
-use Rattle.cd_grammar.specs.CanonicalWords.{word_tokens, separated}
+use Rattle.cd_grammar.specs.CanonicalWords.{canonical_word, separated}
 use Rattle.cd_grammar.specs.Grammar.{operator}
 use Rattle.cd_grammar.specs.Limits.{IsWithinLimits}
 use Rattle.cd_grammar.specs.Tokens.{whole_token}
 
 -- a pipe's tokens, and whether they need parentheses as a member of a chain
-pub record Piece : Type 0 where
+pub record PipeTokens : Type 0 where
   pub is_chain : Bool
   pub tokens : List Token
 
-abbrev pub simple : List Token → Piece
+abbrev pub simple : List Token → PipeTokens
 simple ts = record { is_chain = false; tokens = ts }
 
-abbrev pub wrapped : Piece → List Token
+abbrev pub wrapped : PipeTokens → List Token
 wrapped p = if p.is_chain then token.Sign sign.OpenParen ∷ p.tokens ++ token.Sign sign.CloseParen ∷ [] else p.tokens
 
 abbrev pub braced : List Token → List Token
@@ -40,40 +40,40 @@ braced ts = token.Sign sign.OpenBrace ∷ ts ++ token.Sign sign.CloseBrace ∷ [
 abbrev pub in_parens : List Token → List Token
 in_parens ts = token.Sign sign.OpenParen ∷ ts ++ token.Sign sign.CloseParen ∷ []
 
-abbrev pub pair : Piece → Piece → List Token
+abbrev pub pair : PipeTokens → PipeTokens → List Token
 pair p q = p.tokens ++ token.Sign sign.Comma ∷ q.tokens
 
 -- one level, with the pieces of the pipes in it
-abbrev pub piece_step : Pipe-F Piece → Piece
-piece_step (Pipe-F.Word w) = simple (word_tokens w)
-piece_step (Pipe-F.Chain j ps) = record { is_chain = true; tokens = separated (operator j) (map wrapped ps) }
-piece_step (Pipe-F.Sequence ps) = simple (braced (separated (token.Sign sign.Semicolon) (map (λ p. p.tokens) ps)))
-piece_step (Pipe-F.Exactly n p) = simple (token.Word (keyword.Section section.Exactly) ∷ token.Number (Some n) ∷ braced p.tokens)
-piece_step (Pipe-F.ExactlyE n p) = simple (token.Word (keyword.Section section.ExactlyE) ∷ token.Number (Some n) ∷ braced p.tokens)
-piece_step (Pipe-F.LineE p) = simple (token.Word keyword.LineE ∷ braced p.tokens)
-piece_step (Pipe-F.Mark s p) = simple (token.Word keyword.Mark ∷ token.Text s ∷ braced p.tokens)
-piece_step (Pipe-F.Tee p) = simple (token.Word keyword.Tee ∷ in_parens p.tokens)
-piece_step (Pipe-F.ZipSource p q s) = simple (token.Word (keyword.Zip zip.Source) ∷ in_parens (pair p q ++ token.Sign sign.Comma ∷ token.Text s ∷ []))
-piece_step (Pipe-F.ZipSink p q) = simple (token.Word (keyword.Zip zip.Sink) ∷ in_parens (pair p q))
-piece_step (Pipe-F.ZipConduit p q) = simple (token.Word (keyword.Zip zip.Conduit) ∷ in_parens (pair p q))
+abbrev pub canonical_step : Pipe-F PipeTokens → PipeTokens
+canonical_step (Pipe-F.Word w) = simple (canonical_word w)
+canonical_step (Pipe-F.Chain j ps) = record { is_chain = true; tokens = separated (operator j) (map wrapped ps) }
+canonical_step (Pipe-F.Sequence ps) = simple (braced (separated (token.Sign sign.Semicolon) (map (λ p. p.tokens) ps)))
+canonical_step (Pipe-F.Exactly n p) = simple (token.Word (keyword.Section section.Exactly) ∷ token.Number (Some n) ∷ braced p.tokens)
+canonical_step (Pipe-F.ExactlyE n p) = simple (token.Word (keyword.Section section.ExactlyE) ∷ token.Number (Some n) ∷ braced p.tokens)
+canonical_step (Pipe-F.LineE p) = simple (token.Word keyword.LineE ∷ braced p.tokens)
+canonical_step (Pipe-F.Mark s p) = simple (token.Word keyword.Mark ∷ token.Text s ∷ braced p.tokens)
+canonical_step (Pipe-F.Tee p) = simple (token.Word keyword.Tee ∷ in_parens p.tokens)
+canonical_step (Pipe-F.ZipSource p q s) = simple (token.Word (keyword.Zip zip.Source) ∷ in_parens (pair p q ++ token.Sign sign.Comma ∷ token.Text s ∷ []))
+canonical_step (Pipe-F.ZipSink p q) = simple (token.Word (keyword.Zip zip.Sink) ∷ in_parens (pair p q))
+canonical_step (Pipe-F.ZipConduit p q) = simple (token.Word (keyword.Zip zip.Conduit) ∷ in_parens (pair p q))
 
-unfoldable pub piece : Pipe → Piece
-piece p = fold-Pipe Piece piece_step p
+unfoldable pub canonical_pipe : Pipe → PipeTokens
+canonical_pipe p = fold-Pipe PipeTokens canonical_step p
 
-abbrev pub ended : Pipe → List Token
-ended p = (piece p).tokens ++ token.Sign sign.Semicolon ∷ []
+abbrev pub with_semicolon : Pipe → List Token
+with_semicolon p = (canonical_pipe p).tokens ++ token.Sign sign.Semicolon ∷ []
 
-abbrev pub statement_tokens : Stmt → List Token
-statement_tokens (stmt.Run p) = token.Word keyword.Run ∷ ended p
-statement_tokens (stmt.Seal n p) = token.Word (keyword.Opening opening.Let) ∷ token.Named n ∷ token.Sign sign.Equals ∷ token.Word keyword.Seal ∷ ended p
-statement_tokens (stmt.Feed n p) = token.Word (keyword.Opening opening.Feed) ∷ token.Named n ∷ operator join.Plain ∷ ended p
-statement_tokens (stmt.CloseSeal n p) = token.Word (keyword.Opening opening.Close) ∷ token.Named n ∷ operator join.Plain ∷ ended p
-statement_tokens (stmt.Hold n s) =
+abbrev pub canonical_statement : Stmt → List Token
+canonical_statement (stmt.Run p) = token.Word keyword.Run ∷ with_semicolon p
+canonical_statement (stmt.Seal n p) = token.Word (keyword.Opening opening.Let) ∷ token.Named n ∷ token.Sign sign.Equals ∷ token.Word keyword.Seal ∷ with_semicolon p
+canonical_statement (stmt.Feed n p) = token.Word (keyword.Opening opening.Feed) ∷ token.Named n ∷ operator join.Plain ∷ with_semicolon p
+canonical_statement (stmt.CloseSeal n p) = token.Word (keyword.Opening opening.Close) ∷ token.Named n ∷ operator join.Plain ∷ with_semicolon p
+canonical_statement (stmt.Hold n s) =
     token.Word (keyword.Opening opening.Hold) ∷ token.Named n ∷ token.Sign sign.Equals ∷ token.Word keyword.Mark ∷ token.Text s ∷ token.Sign sign.Semicolon ∷ []
-statement_tokens (stmt.Release n) = token.Word (keyword.Opening opening.Release) ∷ token.Named n ∷ token.Sign sign.Semicolon ∷ []
+canonical_statement (stmt.Release n) = token.Word (keyword.Opening opening.Release) ∷ token.Named n ∷ token.Sign sign.Semicolon ∷ []
 
 abbrev pub canonical : List Stmt → List Token
-canonical ss = flat_map statement_tokens ss
+canonical ss = flat_map canonical_statement ss
 
 -- Whether a tree has the form of a script's.
 abbrev pub has_one : List Bool → Bool
@@ -110,13 +110,13 @@ proper_step (Pipe-F.ZipConduit p q) = p && q
 unfoldable pub is_proper : Pipe → Bool
 is_proper p = fold-Pipe Bool proper_step p
 
-abbrev pub names : Option Token → Bool
-names (Some (token.Named n)) = true
-names _ = false
+abbrev pub is_named : Option Token → Bool
+is_named (Some (token.Named n)) = true
+is_named _ = false
 
 -- an identifier that is not reserved
 abbrev pub is_name : List ℕ → Bool
-is_name n = names (whole_token n)
+is_name n = is_named (whole_token n)
 
 abbrev pub is_proper_statement : Stmt → Bool
 is_proper_statement (stmt.Run p) = is_proper p

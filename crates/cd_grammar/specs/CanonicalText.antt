@@ -6,22 +6,22 @@ use Rattle.cd_elem.specs.declared.token.Keyword.TheVariants as keyword
 use Rattle.cd_elem.specs.declared.token.Sign.TheVariants as sign
 use Rattle.cd_elem.specs.declared.token.Token.{Token}
 use Rattle.cd_elem.specs.declared.token.Token.TheVariants as token
-use Rattle.cd_grammar.specs.Canonical.{statement_tokens}
+use Rattle.cd_grammar.specs.Canonical.{canonical_statement}
 use Rattle.cd_grammar.specs.Spelling.{spelled}
 
 -- no blank stands before these
-abbrev pub is_closing : Token → Bool
-is_closing (token.Sign sign.Comma) = true
-is_closing (token.Sign sign.Semicolon) = true
-is_closing (token.Sign sign.CloseParen) = true
-is_closing (token.Sign sign.CloseSquare) = true
-is_closing _ = false
+abbrev pub takes_no_blank_before : Token → Bool
+takes_no_blank_before (token.Sign sign.Comma) = true
+takes_no_blank_before (token.Sign sign.Semicolon) = true
+takes_no_blank_before (token.Sign sign.CloseParen) = true
+takes_no_blank_before (token.Sign sign.CloseSquare) = true
+takes_no_blank_before _ = false
 
 -- nor behind these
-abbrev pub is_opening : Token → Bool
-is_opening (token.Sign sign.OpenParen) = true
-is_opening (token.Sign sign.OpenSquare) = true
-is_opening _ = false
+abbrev pub takes_no_blank_behind : Token → Bool
+takes_no_blank_behind (token.Sign sign.OpenParen) = true
+takes_no_blank_behind (token.Sign sign.OpenSquare) = true
+takes_no_blank_behind _ = false
 
 -- nor between one of these words and its parenthesis
 abbrev pub is_call : Token → Bool
@@ -33,19 +33,19 @@ abbrev pub is_paren : Token → Bool
 is_paren (token.Sign sign.OpenParen) = true
 is_paren _ = false
 
-abbrev pub space : Token → Token → List ℕ
-space before behind = if is_opening before || (is_closing behind || (is_call before && is_paren behind)) then [] else 32 ∷ []
+abbrev pub blank_between : Token → Token → List ℕ
+blank_between before behind = if takes_no_blank_behind before || (takes_no_blank_before behind || (is_call before && is_paren behind)) then [] else 32 ∷ []
 
 abbrev pub spelled_behind : Token → List Token → List ℕ
 spelled_behind before [] = []
-spelled_behind before (t ∷ ts) = space before t ++ (spelled t ++ spelled_behind t ts)
+spelled_behind before (t ∷ ts) = blank_between before t ++ (spelled t ++ spelled_behind t ts)
 
 abbrev pub spaced : List Token → List ℕ
 spaced [] = []
 spaced (t ∷ ts) = spelled t ++ spelled_behind t ts
 
-abbrev pub line : Stmt → List ℕ
-line s = spaced (statement_tokens s) ++ 10 ∷ []
+abbrev pub statement_line : Stmt → List ℕ
+statement_line s = spaced (canonical_statement s) ++ 10 ∷ []
 
 abbrev pub canonical_text : List Stmt → List ℕ
-canonical_text ss = flat_map line ss
+canonical_text ss = flat_map statement_line ss

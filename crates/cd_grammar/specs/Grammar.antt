@@ -41,13 +41,13 @@ use Rattle.cd_grammar.specs.WordTrees as tree
 abbrev pub Numeral : Type 0
 Numeral = Option ℕ
 
-abbrev pub alone : List ℕ → Option ℕ
-alone (c ∷ []) = Some c
-alone _ = None
+abbrev pub only_member : List ℕ → Option ℕ
+only_member (c ∷ []) = Some c
+only_member _ = None
 
 -- the only character of a text
 abbrev pub one_scalar : List ℕ → Option ℕ
-one_scalar text = alone (chars text)
+one_scalar text = only_member (chars text)
 
 -- a LIT of exactly one character
 pub record Character : Type 0 where
@@ -56,12 +56,12 @@ pub record Character : Type 0 where
   pub one : one_scalar text ≡ Some scalar
 
 -- a LIT that is not empty
-pub record File : Type 0 where
+pub record FileName : Type 0 where
   pub first : ℕ
   pub rest : List ℕ
 
-abbrev pub file_text : File → List ℕ
-file_text f = f.first ∷ f.rest
+abbrev pub file_name_text : FileName → List ℕ
+file_name_text f = f.first ∷ f.rest
 
 -- class, behind its `not`
 pub data ClassForm : Type 0 where
@@ -76,9 +76,9 @@ pub data TestForm : Type 0 where
   Shorter : Numeral → TestForm
 
 -- what stands behind `mapE`
-pub data ElementMap : Type 0 where
-  ByNumber : NumberMap → Numeral → ElementMap
-  Rot13 : ElementMap
+pub data ElementMapForm : Type 0 where
+  ByNumber : NumberMap → Numeral → ElementMapForm
+  Rot13 : ElementMapForm
 
 -- what stands behind `map`
 pub data PieceMapForm : Type 0 where
@@ -86,24 +86,24 @@ pub data PieceMapForm : Type 0 where
   Reverse : PieceMapForm
 
 -- literals ::= LIT | literals , LIT
-pub data Literals : Type 0 where
-  OneLiteral : List ℕ → Literals
-  AndLiteral : Literals → List ℕ → Literals
+pub data LiteralsForm : Type 0 where
+  OneLiteral : List ℕ → LiteralsForm
+  AndLiteral : LiteralsForm → List ℕ → LiteralsForm
 
 -- list ::= [ ] | [ literals ]
 pub data ListForm : Type 0 where
   Nothing : ListForm
-  All : Literals → ListForm
+  All : LiteralsForm → ListForm
 
 pub data WordForm : Type 0 where
   Plain : PlainWord → WordForm
   Counted : CountedWord → Numeral → WordForm
   Classed : ClassedWord → Bool → ClassForm → WordForm
   Tested : TestedWord → Bool → TestForm → WordForm
-  MapE : ElementMap → WordForm
+  MapE : ElementMapForm → WordForm
   Map : PieceMapForm → WordForm
   Literal : LiteralWord → List ℕ → WordForm
-  OfFile : FileWord → File → WordForm
+  OfFile : FileWord → FileName → WordForm
   Split : Character → Numeral → WordForm
   OfList : ListWord → ListForm → WordForm
   Replicate : Numeral → List ℕ → WordForm
@@ -113,42 +113,42 @@ pub data WordForm : Type 0 where
 pub data BlockForm : Type 0 where
   Counts : Section → Numeral → BlockForm
   LineE : BlockForm
-  Mark : File → BlockForm
+  Mark : FileName → BlockForm
 
 mutual
   -- part ::= word | ( pipe ) | { pipes } | block { pipe } | tee ( pipe ) | zipSource ( pipe , pipe , LIT ) | zipSink ( pipe , pipe ) | zipConduit ( pipe , pipe )
-  pub data Part : Type 0 where
-    OfWord : WordForm → Part
-    Parens : Whole → Part
-    Braces : Wholes → Part
-    Block : BlockForm → Whole → Part
-    Tee : Whole → Part
-    ZipSource : Whole → Whole → List ℕ → Part
-    ZipSink : Whole → Whole → Part
-    ZipConduit : Whole → Whole → Part
+  pub data PartForm : Type 0 where
+    OfWord : WordForm → PartForm
+    Parens : PipeForm → PartForm
+    Braces : PipesForm → PartForm
+    Block : BlockForm → PipeForm → PartForm
+    Tee : PipeForm → PartForm
+    ZipSource : PipeForm → PipeForm → List ℕ → PartForm
+    ZipSink : PipeForm → PipeForm → PartForm
+    ZipConduit : PipeForm → PipeForm → PartForm
 
   -- pipe ::= part | parts operator part, with the same operator throughout
-  pub data Whole : Type 0 where
-    One : Part → Whole
-    Chain : Join → Parts → Part → Whole
+  pub data PipeForm : Type 0 where
+    One : PartForm → PipeForm
+    Chain : Join → PartsForm → PartForm → PipeForm
 
   -- parts ::= part | parts operator part
-  pub data Parts : Type 0 where
-    First : Part → Parts
-    Then : Parts → Part → Parts
+  pub data PartsForm : Type 0 where
+    First : PartForm → PartsForm
+    Then : PartsForm → PartForm → PartsForm
 
   -- pipes ::= pipe | pipes ; pipe
-  pub data Wholes : Type 0 where
-    Only : Whole → Wholes
-    And : Wholes → Whole → Wholes
+  pub data PipesForm : Type 0 where
+    Only : PipeForm → PipesForm
+    And : PipesForm → PipeForm → PipesForm
 
-pub data Sentence : Type 0 where
-  Run : Whole → Sentence
-  Seal : List ℕ → Whole → Sentence
-  Feed : List ℕ → Whole → Sentence
-  CloseSeal : List ℕ → Whole → Sentence
-  Hold : List ℕ → File → Sentence
-  Release : List ℕ → Sentence
+pub data StatementForm : Type 0 where
+  Run : PipeForm → StatementForm
+  Seal : List ℕ → PipeForm → StatementForm
+  Feed : List ℕ → PipeForm → StatementForm
+  CloseSeal : List ℕ → PipeForm → StatementForm
+  Hold : List ℕ → FileName → StatementForm
+  Release : List ℕ → StatementForm
 
 -- What a derivation spells.
 abbrev pub operator : Join → Token
@@ -164,7 +164,7 @@ test_tokens Empty = token.Word keyword.Empty ∷ []
 test_tokens (AtEnd t s) = token.Word (keyword.EndTest t) ∷ token.Text s ∷ []
 test_tokens (Shorter n) = token.Word keyword.Shorter ∷ token.Number n ∷ []
 
-abbrev pub element_map_tokens : ElementMap → List Token
+abbrev pub element_map_tokens : ElementMapForm → List Token
 element_map_tokens (ByNumber m n) = token.Word (keyword.NumberMap m) ∷ token.Number n ∷ []
 element_map_tokens Rot13 = token.Word keyword.Rot13 ∷ []
 
@@ -172,7 +172,7 @@ abbrev pub piece_map_tokens : PieceMapForm → List Token
 piece_map_tokens (ByText m s) = token.Word (keyword.EndMap m) ∷ token.Text s ∷ []
 piece_map_tokens Reverse = token.Word keyword.Reverse ∷ []
 
-abbrev pub literals_tokens : Literals → List Token
+abbrev pub literals_tokens : LiteralsForm → List Token
 literals_tokens (OneLiteral s) = token.Text s ∷ []
 literals_tokens (AndLiteral ss s) = literals_tokens ss ++ token.Sign sign.Comma ∷ token.Text s ∷ []
 
@@ -192,7 +192,7 @@ word_tokens (Tested w negated t) = token.Word (keyword.Tested w) ∷ not_tokens 
 word_tokens (MapE m) = token.Word keyword.MapE ∷ element_map_tokens m
 word_tokens (Map m) = token.Word keyword.Map ∷ piece_map_tokens m
 word_tokens (Literal w s) = token.Word (keyword.Literal w) ∷ token.Text s ∷ []
-word_tokens (OfFile w f) = token.Word (keyword.File w) ∷ token.Text (file_text f) ∷ []
+word_tokens (OfFile w f) = token.Word (keyword.File w) ∷ token.Text (file_name_text f) ∷ []
 word_tokens (Split c n) = token.Word keyword.Split ∷ token.Text c.text ∷ token.Number n ∷ []
 word_tokens (OfList w l) = token.Word (keyword.List w) ∷ list_tokens l
 word_tokens (Replicate n s) = token.Word keyword.Replicate ∷ token.Number n ∷ token.Text s ∷ []
@@ -201,49 +201,49 @@ word_tokens (Range a b) = token.Word keyword.Range ∷ token.Number a ∷ token.
 abbrev pub block_tokens : BlockForm → List Token
 block_tokens (Counts s n) = token.Word (keyword.Section s) ∷ token.Number n ∷ []
 block_tokens LineE = token.Word keyword.LineE ∷ []
-block_tokens (Mark f) = token.Word keyword.Mark ∷ token.Text (file_text f) ∷ []
+block_tokens (Mark f) = token.Word keyword.Mark ∷ token.Text (file_name_text f) ∷ []
 
 abbrev mutual
-  pub part_tokens : Part → List Token
+  pub part_tokens : PartForm → List Token
   part_tokens (OfWord w) = word_tokens w
-  part_tokens (Parens p) = token.Sign sign.OpenParen ∷ whole_tokens p ++ token.Sign sign.CloseParen ∷ []
-  part_tokens (Braces ps) = token.Sign sign.OpenBrace ∷ wholes_tokens ps ++ token.Sign sign.CloseBrace ∷ []
-  part_tokens (Block b p) = block_tokens b ++ token.Sign sign.OpenBrace ∷ whole_tokens p ++ token.Sign sign.CloseBrace ∷ []
-  part_tokens (Tee p) = token.Word keyword.Tee ∷ token.Sign sign.OpenParen ∷ whole_tokens p ++ token.Sign sign.CloseParen ∷ []
+  part_tokens (Parens p) = token.Sign sign.OpenParen ∷ pipe_tokens p ++ token.Sign sign.CloseParen ∷ []
+  part_tokens (Braces ps) = token.Sign sign.OpenBrace ∷ pipes_tokens ps ++ token.Sign sign.CloseBrace ∷ []
+  part_tokens (Block b p) = block_tokens b ++ token.Sign sign.OpenBrace ∷ pipe_tokens p ++ token.Sign sign.CloseBrace ∷ []
+  part_tokens (Tee p) = token.Word keyword.Tee ∷ token.Sign sign.OpenParen ∷ pipe_tokens p ++ token.Sign sign.CloseParen ∷ []
   part_tokens (ZipSource p q s) =
-      token.Word (keyword.Zip zip.Source) ∷ token.Sign sign.OpenParen ∷ whole_tokens p ++ token.Sign sign.Comma ∷ whole_tokens q
+      token.Word (keyword.Zip zip.Source) ∷ token.Sign sign.OpenParen ∷ pipe_tokens p ++ token.Sign sign.Comma ∷ pipe_tokens q
       ++ token.Sign sign.Comma ∷ token.Text s ∷ token.Sign sign.CloseParen ∷ []
   part_tokens (ZipSink p q) =
-      token.Word (keyword.Zip zip.Sink) ∷ token.Sign sign.OpenParen ∷ whole_tokens p ++ token.Sign sign.Comma ∷ whole_tokens q ++ token.Sign sign.CloseParen ∷ []
+      token.Word (keyword.Zip zip.Sink) ∷ token.Sign sign.OpenParen ∷ pipe_tokens p ++ token.Sign sign.Comma ∷ pipe_tokens q ++ token.Sign sign.CloseParen ∷ []
   part_tokens (ZipConduit p q) =
-      token.Word (keyword.Zip zip.Conduit) ∷ token.Sign sign.OpenParen ∷ whole_tokens p ++ token.Sign sign.Comma ∷ whole_tokens q ++ token.Sign sign.CloseParen ∷ []
+      token.Word (keyword.Zip zip.Conduit) ∷ token.Sign sign.OpenParen ∷ pipe_tokens p ++ token.Sign sign.Comma ∷ pipe_tokens q ++ token.Sign sign.CloseParen ∷ []
 
-  pub whole_tokens : Whole → List Token
-  whole_tokens (One p) = part_tokens p
-  whole_tokens (Chain j ps p) = parts_tokens j ps ++ operator j ∷ part_tokens p
+  pub pipe_tokens : PipeForm → List Token
+  pipe_tokens (One p) = part_tokens p
+  pipe_tokens (Chain j ps p) = parts_tokens j ps ++ operator j ∷ part_tokens p
 
-  pub parts_tokens : Join → Parts → List Token
+  pub parts_tokens : Join → PartsForm → List Token
   parts_tokens j (First p) = part_tokens p
   parts_tokens j (Then ps p) = parts_tokens j ps ++ operator j ∷ part_tokens p
 
-  pub wholes_tokens : Wholes → List Token
-  wholes_tokens (Only p) = whole_tokens p
-  wholes_tokens (And ps p) = wholes_tokens ps ++ token.Sign sign.Semicolon ∷ whole_tokens p
+  pub pipes_tokens : PipesForm → List Token
+  pipes_tokens (Only p) = pipe_tokens p
+  pipes_tokens (And ps p) = pipes_tokens ps ++ token.Sign sign.Semicolon ∷ pipe_tokens p
 
-abbrev pub sentence_tokens : Sentence → List Token
-sentence_tokens (Run p) = token.Word keyword.Run ∷ whole_tokens p ++ token.Sign sign.Semicolon ∷ []
-sentence_tokens (Seal n p) =
-    token.Word (keyword.Opening opening.Let) ∷ token.Named n ∷ token.Sign sign.Equals ∷ token.Word keyword.Seal ∷ whole_tokens p ++ token.Sign sign.Semicolon ∷ []
-sentence_tokens (Feed n p) = token.Word (keyword.Opening opening.Feed) ∷ token.Named n ∷ operator join.Plain ∷ whole_tokens p ++ token.Sign sign.Semicolon ∷ []
-sentence_tokens (CloseSeal n p) = token.Word (keyword.Opening opening.Close) ∷ token.Named n ∷ operator join.Plain ∷ whole_tokens p ++ token.Sign sign.Semicolon ∷ []
-sentence_tokens (Hold n f) =
-    token.Word (keyword.Opening opening.Hold) ∷ token.Named n ∷ token.Sign sign.Equals ∷ token.Word keyword.Mark ∷ token.Text (file_text f) ∷ token.Sign sign.Semicolon ∷ []
-sentence_tokens (Release n) = token.Word (keyword.Opening opening.Release) ∷ token.Named n ∷ token.Sign sign.Semicolon ∷ []
+abbrev pub statement_tokens : StatementForm → List Token
+statement_tokens (Run p) = token.Word keyword.Run ∷ pipe_tokens p ++ token.Sign sign.Semicolon ∷ []
+statement_tokens (Seal n p) =
+    token.Word (keyword.Opening opening.Let) ∷ token.Named n ∷ token.Sign sign.Equals ∷ token.Word keyword.Seal ∷ pipe_tokens p ++ token.Sign sign.Semicolon ∷ []
+statement_tokens (Feed n p) = token.Word (keyword.Opening opening.Feed) ∷ token.Named n ∷ operator join.Plain ∷ pipe_tokens p ++ token.Sign sign.Semicolon ∷ []
+statement_tokens (CloseSeal n p) = token.Word (keyword.Opening opening.Close) ∷ token.Named n ∷ operator join.Plain ∷ pipe_tokens p ++ token.Sign sign.Semicolon ∷ []
+statement_tokens (Hold n f) =
+    token.Word (keyword.Opening opening.Hold) ∷ token.Named n ∷ token.Sign sign.Equals ∷ token.Word keyword.Mark ∷ token.Text (file_name_text f) ∷ token.Sign sign.Semicolon ∷ []
+statement_tokens (Release n) = token.Word (keyword.Opening opening.Release) ∷ token.Named n ∷ token.Sign sign.Semicolon ∷ []
 
 -- any number of statements, the last first
-abbrev pub script_tokens : List Sentence → List Token
+abbrev pub script_tokens : List StatementForm → List Token
 script_tokens [] = []
-script_tokens (s ∷ before) = script_tokens before ++ sentence_tokens s
+script_tokens (s ∷ before) = script_tokens before ++ statement_tokens s
 
 -- The tree that a derivation stands for. Parentheses leave no mark.
 abbrev pub class_name : ClassForm → ClassName
@@ -256,7 +256,7 @@ test_name Empty = test.Empty
 test_name (AtEnd t s) = tree.test_of_end t s
 test_name (Shorter n) = test.Shorter (tree.number_of n)
 
-abbrev pub element_map : ElementMap → ByteMap
+abbrev pub element_map : ElementMapForm → ByteMap
 element_map (ByNumber m n) = tree.map_by_number m (tree.byte_of n)
 element_map Rot13 = byte_map.Rot13
 
@@ -264,7 +264,7 @@ abbrev pub piece_map : PieceMapForm → PieceMap
 piece_map (ByText m s) = tree.map_by_text m s
 piece_map Reverse = piece_maps.Reverse
 
-abbrev pub literals : Literals → List (List ℕ)
+abbrev pub literals : LiteralsForm → List (List ℕ)
 literals (OneLiteral s) = s ∷ []
 literals (AndLiteral ss s) = literals ss ++ s ∷ []
 
@@ -280,7 +280,7 @@ word_tree (Tested w negated t) = tree.tested_word w (tree.test_of negated (test_
 word_tree (MapE m) = tree.element_map_word (element_map m)
 word_tree (Map m) = tree.piece_map_word (piece_map m)
 word_tree (Literal w s) = tree.literal_word w s
-word_tree (OfFile w f) = tree.file_word w (file_text f)
+word_tree (OfFile w f) = tree.file_word w (file_name_text f)
 word_tree (Split c n) = tree.split_word c.scalar (tree.number_of n)
 word_tree (OfList w l) = tree.list_word w (members l)
 word_tree (Replicate n s) = tree.replicate_word (tree.number_of n) s
@@ -293,46 +293,46 @@ section_tree section.ExactlyE n p = pipe.ExactlyE n p
 abbrev pub block_tree : BlockForm → Pipe → Pipe
 block_tree (Counts s n) p = section_tree s (tree.number_of n) p
 block_tree LineE p = pipe.LineE p
-block_tree (Mark f) p = pipe.Mark (file_text f) p
+block_tree (Mark f) p = pipe.Mark (file_name_text f) p
 
 abbrev mutual
-  pub part_tree : Part → Pipe
+  pub part_tree : PartForm → Pipe
   part_tree (OfWord w) = pipe.Word (word_tree w)
-  part_tree (Parens p) = whole_tree p
-  part_tree (Braces ps) = pipe.Sequence (wholes_trees ps)
-  part_tree (Block b p) = block_tree b (whole_tree p)
-  part_tree (Tee p) = pipe.Tee (whole_tree p)
-  part_tree (ZipSource p q s) = pipe.ZipSource (whole_tree p) (whole_tree q) s
-  part_tree (ZipSink p q) = pipe.ZipSink (whole_tree p) (whole_tree q)
-  part_tree (ZipConduit p q) = pipe.ZipConduit (whole_tree p) (whole_tree q)
+  part_tree (Parens p) = pipe_tree p
+  part_tree (Braces ps) = pipe.Sequence (pipes_trees ps)
+  part_tree (Block b p) = block_tree b (pipe_tree p)
+  part_tree (Tee p) = pipe.Tee (pipe_tree p)
+  part_tree (ZipSource p q s) = pipe.ZipSource (pipe_tree p) (pipe_tree q) s
+  part_tree (ZipSink p q) = pipe.ZipSink (pipe_tree p) (pipe_tree q)
+  part_tree (ZipConduit p q) = pipe.ZipConduit (pipe_tree p) (pipe_tree q)
 
-  pub whole_tree : Whole → Pipe
-  whole_tree (One p) = part_tree p
-  whole_tree (Chain j ps p) = pipe.Chain j (parts_trees ps ++ part_tree p ∷ [])
+  pub pipe_tree : PipeForm → Pipe
+  pipe_tree (One p) = part_tree p
+  pipe_tree (Chain j ps p) = pipe.Chain j (parts_trees ps ++ part_tree p ∷ [])
 
-  pub parts_trees : Parts → List Pipe
+  pub parts_trees : PartsForm → List Pipe
   parts_trees (First p) = part_tree p ∷ []
   parts_trees (Then ps p) = parts_trees ps ++ part_tree p ∷ []
 
-  pub wholes_trees : Wholes → List Pipe
-  wholes_trees (Only p) = whole_tree p ∷ []
-  wholes_trees (And ps p) = wholes_trees ps ++ whole_tree p ∷ []
+  pub pipes_trees : PipesForm → List Pipe
+  pipes_trees (Only p) = pipe_tree p ∷ []
+  pipes_trees (And ps p) = pipes_trees ps ++ pipe_tree p ∷ []
 
-abbrev pub sentence_tree : Sentence → Stmt
-sentence_tree (Run p) = stmt.Run (whole_tree p)
-sentence_tree (Seal n p) = stmt.Seal n (whole_tree p)
-sentence_tree (Feed n p) = stmt.Feed n (whole_tree p)
-sentence_tree (CloseSeal n p) = stmt.CloseSeal n (whole_tree p)
-sentence_tree (Hold n f) = stmt.Hold n (file_text f)
-sentence_tree (Release n) = stmt.Release n
+abbrev pub statement_tree : StatementForm → Stmt
+statement_tree (Run p) = stmt.Run (pipe_tree p)
+statement_tree (Seal n p) = stmt.Seal n (pipe_tree p)
+statement_tree (Feed n p) = stmt.Feed n (pipe_tree p)
+statement_tree (CloseSeal n p) = stmt.CloseSeal n (pipe_tree p)
+statement_tree (Hold n f) = stmt.Hold n (file_name_text f)
+statement_tree (Release n) = stmt.Release n
 
-abbrev pub script_tree : List Sentence → List Stmt
+abbrev pub script_tree : List StatementForm → List Stmt
 script_tree [] = []
-script_tree (s ∷ before) = script_tree before ++ sentence_tree s ∷ []
+script_tree (s ∷ before) = script_tree before ++ statement_tree s ∷ []
 
 -- these tokens are a script of the grammar, with this tree
 pub record IsScript (ts : List Token) (tree : List Stmt) : Type 0 where
-  pub derivation : List Sentence
+  pub derivation : List StatementForm
   pub spelled : script_tokens derivation ≡ ts
   pub stands_for : script_tree derivation ≡ tree
 

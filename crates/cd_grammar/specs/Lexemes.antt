@@ -10,18 +10,18 @@ abbrev pub is_blank : ℕ → Bool
 is_blank c = c == 32 || (c == 9 || (c == 13 || c == 10))
 
 -- whether the next byte is in a comment too, and whether this one is in the gap
-abbrev pub comment_on : Bool → ℕ → Bool
-comment_on true c = not (c == 10)
-comment_on false c = c == 35
+abbrev pub comment_goes_on : Bool → ℕ → Bool
+comment_goes_on true c = not (c == 10)
+comment_goes_on false c = c == 35
 
-abbrev pub in_gap : Bool → ℕ → Bool
-in_gap true c = true
-in_gap false c = is_blank c || c == 35
+abbrev pub is_in_gap : Bool → ℕ → Bool
+is_in_gap true c = true
+is_in_gap false c = is_blank c || c == 35
 
 -- the length of the blanks and comments at the front of a text, which may begin in a comment
-abbrev pub gap : Bool → List ℕ → ℕ
-gap comment [] = 0
-gap comment (c ∷ cs) = if in_gap comment c then 1 + gap (comment_on comment c) cs else 0
+abbrev pub gap_length : Bool → List ℕ → ℕ
+gap_length comment [] = 0
+gap_length comment (c ∷ cs) = if is_in_gap comment c then 1 + gap_length (comment_goes_on comment c) cs else 0
 
 abbrev pub begins_digit : List ℕ → Bool
 begins_digit [] = false
@@ -37,7 +37,7 @@ is_glued zero cs = zero && begins_digit cs
 
 -- where the next token begins
 abbrev pub next_at : List ℕ → ℕ → ℕ
-next_at text at = at + gap false (drop at text)
+next_at text at = at + gap_length false (drop at text)
 
 -- from this place on, behind a zero or not, there is no further token: the text ends, or none begins at `stop`
 pub record Stops (text : List ℕ) (at : ℕ) (zero : Bool) (stop : ℕ) (whole : Bool) : Type 0 where

@@ -24,75 +24,75 @@ abbrev pub every_number : Bounds
 every_number = bounds 0 (2 ^ 64 - 1)
 
 -- of times that something is repeated, of lengths of pieces, of things collected, and of bytes
-abbrev pub times : Bounds
-times = bounds 0 4096
+abbrev pub repeat_bounds : Bounds
+repeat_bounds = bounds 0 4096
 
-abbrev pub lengths : Bounds
-lengths = bounds 1 65536
+abbrev pub length_bounds : Bounds
+length_bounds = bounds 1 65536
 
-abbrev pub collected : Bounds
-collected = bounds 0 16777216
+abbrev pub collect_bounds : Bounds
+collect_bounds = bounds 0 16777216
 
-abbrev pub bytes : Bounds
-bytes = bounds 0 255
+abbrev pub byte_bounds : Bounds
+byte_bounds = bounds 0 255
 
-abbrev pub copies : Bounds
-copies = bounds 0 1099511627776
+abbrev pub copy_bounds : Bounds
+copy_bounds = bounds 0 1099511627776
 
 abbrev pub counted_bounds : CountedWord → Bounds
 counted_bounds counted.TakeE = every_number
-counted_bounds counted.RepeatE = times
+counted_bounds counted.RepeatE = repeat_bounds
 counted_bounds counted.DropE = every_number
-counted_bounds counted.CollectE = collected
+counted_bounds counted.CollectE = collect_bounds
 counted_bounds counted.Take = every_number
-counted_bounds counted.Repeat = times
+counted_bounds counted.Repeat = repeat_bounds
 counted_bounds counted.Drop = every_number
-counted_bounds counted.Collect = collected
-counted_bounds counted.Lines = lengths
-counted_bounds counted.Exact = lengths
-counted_bounds counted.ChunksOf = lengths
+counted_bounds counted.Collect = collect_bounds
+counted_bounds counted.Lines = length_bounds
+counted_bounds counted.Exact = length_bounds
+counted_bounds counted.ChunksOf = length_bounds
 
 abbrev pub keyword_bounds : Keyword → Bounds
 keyword_bounds (keyword.Counted w) = counted_bounds w
-keyword_bounds (keyword.NumberMap m) = bytes
-keyword_bounds keyword.Replicate = copies
+keyword_bounds (keyword.NumberMap m) = byte_bounds
+keyword_bounds keyword.Replicate = copy_bounds
 keyword_bounds _ = every_number
 
 -- The numbers that may stand behind this token. A literal has a number behind it only in `split`.
 abbrev pub bounds_behind : Token → Bounds
 bounds_behind (token.Word k) = keyword_bounds k
-bounds_behind (token.Text s) = lengths
+bounds_behind (token.Text s) = length_bounds
 bounds_behind _ = every_number
 
 abbrev pub bounds_after : List Token → Bounds
 bounds_after ts = fold (λ _ t. bounds_behind t) every_number ts
 
-abbrev pub sign_brackets : ℕ → Sign → ℕ
-sign_brackets n sign.OpenBrace = n + 1
-sign_brackets n sign.OpenParen = n + 1
-sign_brackets n sign.OpenSquare = n + 1
-sign_brackets n sign.CloseBrace = n - 1
-sign_brackets n sign.CloseParen = n - 1
-sign_brackets n sign.CloseSquare = n - 1
-sign_brackets n _ = n
+abbrev pub brackets_with_sign : ℕ → Sign → ℕ
+brackets_with_sign n sign.OpenBrace = n + 1
+brackets_with_sign n sign.OpenParen = n + 1
+brackets_with_sign n sign.OpenSquare = n + 1
+brackets_with_sign n sign.CloseBrace = n - 1
+brackets_with_sign n sign.CloseParen = n - 1
+brackets_with_sign n sign.CloseSquare = n - 1
+brackets_with_sign n _ = n
 
 abbrev pub brackets_with : ℕ → Token → ℕ
-brackets_with n (token.Sign s) = sign_brackets n s
+brackets_with n (token.Sign s) = brackets_with_sign n s
 brackets_with n _ = n
 
 -- how many brackets these tokens leave open
 abbrev pub open_brackets : List Token → ℕ
 open_brackets ts = fold brackets_with 0 ts
 
-abbrev pub opens : Sign → Bool
-opens sign.OpenBrace = true
-opens sign.OpenParen = true
-opens sign.OpenSquare = true
-opens _ = false
+abbrev pub sign_opens_bracket : Sign → Bool
+sign_opens_bracket sign.OpenBrace = true
+sign_opens_bracket sign.OpenParen = true
+sign_opens_bracket sign.OpenSquare = true
+sign_opens_bracket _ = false
 
-abbrev pub is_opening : Token → Bool
-is_opening (token.Sign s) = opens s
-is_opening _ = false
+abbrev pub opens_bracket : Token → Bool
+opens_bracket (token.Sign s) = sign_opens_bracket s
+opens_bracket _ = false
 
 abbrev pub is_too_long : Token → Bool
 is_too_long (token.Text s) = nat_lt 4096 (length s)
@@ -108,7 +108,7 @@ is_outside r _ = false
 abbrev pub limit_of : ℕ → ℕ → Bounds → Token → Option LimitKind
 limit_of count open_now r t =
     if nat_lt 8191 count then Some Tokens
-    else (if nat_lt 31 open_now && is_opening t then Some Depth
+    else (if nat_lt 31 open_now && opens_bracket t then Some Depth
     else (if is_too_long t then Some Literal
     else (if is_outside r t then Some Number else None)))
 

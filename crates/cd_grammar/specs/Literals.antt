@@ -32,26 +32,26 @@ digit_or (Some d) more = more d
 
 abbrev mutual
   -- The value of a literal, where these bytes stand behind its opening quote and the closing one is the last of them.
-  pub inside : List ℕ → Option (List ℕ)
-  inside [] = None
-  inside (c ∷ cs) =
+  pub literal_value : List ℕ → Option (List ℕ)
+  literal_value [] = None
+  literal_value (c ∷ cs) =
       if c == 34 then no_more cs
-      else (if c == 92 then escaped cs
-      else (if c == 10 then None else in_front (c ∷ []) (inside cs)))
+      else (if c == 92 then escape_value cs
+      else (if c == 10 then None else in_front (c ∷ []) (literal_value cs)))
 
   -- behind a backslash
-  pub escaped : List ℕ → Option (List ℕ)
-  escaped [] = None
-  escaped (c ∷ cs) = short_or (short_escape c) (inside cs) (if c == 117 then braced cs else None)
+  pub escape_value : List ℕ → Option (List ℕ)
+  escape_value [] = None
+  escape_value (c ∷ cs) = short_or (short_escape c) (literal_value cs) (if c == 117 then unicode_value cs else None)
 
   -- behind `\u`
-  pub braced : List ℕ → Option (List ℕ)
-  braced [] = None
-  braced (c ∷ cs) = if c == 123 then digits 0 0 cs else None
+  pub unicode_value : List ℕ → Option (List ℕ)
+  unicode_value [] = None
+  unicode_value (c ∷ cs) = if c == 123 then unicode_digits 0 0 cs else None
 
   -- behind `\u{` and so many digits of this value
-  pub digits : ℕ → ℕ → List ℕ → Option (List ℕ)
-  digits count value [] = None
-  digits count value (c ∷ cs) =
-      if c == 125 then (if nat_lt 0 count && scalar value then in_front (encode_utf8 value) (inside cs) else None)
-      else (if nat_lt count 6 then digit_or (hex_value c) (λ d. digits (count + 1) (value * 16 + d) cs) else None)
+  pub unicode_digits : ℕ → ℕ → List ℕ → Option (List ℕ)
+  unicode_digits count value [] = None
+  unicode_digits count value (c ∷ cs) =
+      if c == 125 then (if nat_lt 0 count && scalar value then in_front (encode_utf8 value) (literal_value cs) else None)
+      else (if nat_lt count 6 then digit_or (hex_value c) (λ d. unicode_digits (count + 1) (value * 16 + d) cs) else None)

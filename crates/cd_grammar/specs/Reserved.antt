@@ -17,11 +17,11 @@ use Rattle.cd_elem.specs.declared.token.Zip.TheVariants as zip
 use Rattle.cd_elem.specs.declared.token.Keyword.{Keyword}
 use Rattle.cd_elem.specs.declared.token.Keyword.TheVariants as keyword
 
-abbrev pub Spelled : Type 0
-Spelled = List ℕ × Keyword
+abbrev pub WordEntry : Type 0
+WordEntry = List ℕ × Keyword
 
 -- the words of statements and of forms, and those that are reserved and stand in no script
-abbrev pub form_words : List Spelled
+abbrev pub form_words : List WordEntry
 form_words =
     (codes "run", keyword.Run)
     ∷ (codes "let", keyword.Opening opening.Let)
@@ -44,7 +44,7 @@ form_words =
     ∷ []
 
 -- the words with nothing behind them
-abbrev pub plain_words : List Spelled
+abbrev pub plain_words : List WordEntry
 plain_words =
     (codes "passE", keyword.Plain plain.PassE)
     ∷ (codes "headE", keyword.Plain plain.HeadE)
@@ -74,7 +74,7 @@ plain_words =
     ∷ []
 
 -- the words with something behind them
-abbrev pub argument_words : List Spelled
+abbrev pub argument_words : List WordEntry
 argument_words =
     (codes "takeE", keyword.Counted counted.TakeE)
     ∷ (codes "repeatE", keyword.Counted counted.RepeatE)
@@ -110,7 +110,7 @@ argument_words =
     ∷ []
 
 -- the names of classes, tests and maps
-abbrev pub argument_names : List Spelled
+abbrev pub argument_names : List WordEntry
 argument_names =
     (codes "digit", keyword.Class class.Digit)
     ∷ (codes "upper", keyword.Class class.Upper)
@@ -134,13 +134,13 @@ argument_names =
     ∷ (codes "reverse", keyword.Reverse)
     ∷ []
 
-abbrev pub reserved_words : List Spelled
+abbrev pub reserved_words : List WordEntry
 reserved_words = form_words ++ (plain_words ++ (argument_words ++ argument_names))
 
-abbrev pub look : List ℕ → List Spelled → Option Keyword
-look name [] = None
-look name (w ∷ ws) = if bytes_eq name w.0 then Some w.1 else look name ws
+abbrev pub look_up : List ℕ → List WordEntry → Option Keyword
+look_up name [] = None
+look_up name (w ∷ ws) = if bytes_eq name w.0 then Some w.1 else look_up name ws
 
 -- the reserved word that an identifier is, if it is one
 abbrev pub reserved : List ℕ → Option Keyword
-reserved name = look name reserved_words
+reserved name = look_up name reserved_words

@@ -3,7 +3,7 @@ pub mod CanonicalTexts
 pub mod Derivations
 pub mod Lexemes
 pub mod Limits
-pub mod Words
+pub mod WordTrees
 use Rattle.std.specs.Prelude.{ℕ, ◌≡◌, refl, ◌^◌, ◌-◌, List, [], ◌∷◌, map, Option, Some, None, codes}
 use lib.Utf8.{encode}
 use Rattle.cd_elem.specs.declared.script.Join.TheVariants as join
@@ -18,7 +18,7 @@ use Rattle.cd_elem.specs.declared.token.Sign.TheVariants as sign
 use Rattle.cd_elem.specs.declared.token.Token.{Token}
 use Rattle.cd_elem.specs.declared.token.Token.TheVariants as token
 use Rattle.cd_elem.specs.Base16.{hex_value}
-use Rattle.cd_grammar.specs.Literals.{inside}
+use Rattle.cd_grammar.specs.Literals.{literal_value}
 use Rattle.cd_grammar.specs.Reserved.{reserved}
 use Rattle.cd_grammar.specs.Tokens.{whole_token}
 
@@ -140,56 +140,56 @@ too_great_number : whole_token (codes "18446744073709551616") ≡ Some (token.Nu
 too_great_number = refl
 
 -- literals, from the byte behind the opening quote on
-plain_literal : inside (codes "ab\"") ≡ Some (codes "ab")
+plain_literal : literal_value (codes "ab\"") ≡ Some (codes "ab")
 plain_literal = refl
 
-empty_literal : inside (codes "\"") ≡ Some []
+empty_literal : literal_value (codes "\"") ≡ Some []
 empty_literal = refl
 
-quote_before_the_end : inside (codes "a\"b\"") ≡ None
+quote_before_the_end : literal_value (codes "a\"b\"") ≡ None
 quote_before_the_end = refl
 
-unclosed_literal : inside (codes "ab") ≡ None
+unclosed_literal : literal_value (codes "ab") ≡ None
 unclosed_literal = refl
 
-short_escapes : inside (codes "\\\\\\\"\\n\\r\\t\"") ≡ Some (92 ∷ 34 ∷ 10 ∷ 13 ∷ 9 ∷ [])
+short_escapes : literal_value (codes "\\\\\\\"\\n\\r\\t\"") ≡ Some (92 ∷ 34 ∷ 10 ∷ 13 ∷ 9 ∷ [])
 short_escapes = refl
 
-other_escape : inside (codes "\\a\"") ≡ None
+other_escape : literal_value (codes "\\a\"") ≡ None
 other_escape = refl
 
-newline_inside : inside (97 ∷ 10 ∷ 34 ∷ []) ≡ None
+newline_inside : literal_value (97 ∷ 10 ∷ 34 ∷ []) ≡ None
 newline_inside = refl
 
-nul_inside : inside (0 ∷ 9 ∷ 13 ∷ 34 ∷ []) ≡ Some (0 ∷ 9 ∷ 13 ∷ [])
+nul_inside : literal_value (0 ∷ 9 ∷ 13 ∷ 34 ∷ []) ≡ Some (0 ∷ 9 ∷ 13 ∷ [])
 nul_inside = refl
 
 -- U+20AC in UTF-8
-scalar_escape : inside (codes "\\u{20aC}\"") ≡ Some (226 ∷ 130 ∷ 172 ∷ [])
+scalar_escape : literal_value (codes "\\u{20aC}\"") ≡ Some (226 ∷ 130 ∷ 172 ∷ [])
 unfolding encode
 scalar_escape = refl
 
-six_digits : inside (codes "\\u{000041}\"") ≡ Some (65 ∷ [])
+six_digits : literal_value (codes "\\u{000041}\"") ≡ Some (65 ∷ [])
 unfolding encode
 six_digits = refl
 
-seven_digits : inside (codes "\\u{0000041}\"") ≡ None
+seven_digits : literal_value (codes "\\u{0000041}\"") ≡ None
 seven_digits = refl
 
-no_digits : inside (codes "\\u{}\"") ≡ None
+no_digits : literal_value (codes "\\u{}\"") ≡ None
 no_digits = refl
 
-surrogate_escape : inside (codes "\\u{d800}\"") ≡ None
+surrogate_escape : literal_value (codes "\\u{d800}\"") ≡ None
 surrogate_escape = refl
 
-past_unicode : inside (codes "\\u{110000}\"") ≡ None
+past_unicode : literal_value (codes "\\u{110000}\"") ≡ None
 past_unicode = refl
 
 whole_literal : whole_token (codes "\"a b\"") ≡ Some (token.Text (codes "a b"))
 whole_literal = refl
 
 -- a digit of either case: `\u{f}`, `\u{F}`
-one_digit : map inside (codes "\\u{f}\"" ∷ codes "\\u{F}\"" ∷ []) ≡ Some (15 ∷ []) ∷ Some (15 ∷ []) ∷ []
+one_digit : map literal_value (codes "\\u{f}\"" ∷ codes "\\u{F}\"" ∷ []) ≡ Some (15 ∷ []) ∷ Some (15 ∷ []) ∷ []
 unfolding encode
 one_digit = refl
 
@@ -198,18 +198,18 @@ digits_of_escapes : map hex_value (codes "/09:@AFG`afg") ≡ None ∷ Some 0 ∷
 digits_of_escapes = refl
 
 -- the characters at both ends of what Unicode has, and of the surrogates
-around_surrogates : map inside (codes "\\u{d7ff}\"" ∷ codes "\\u{dfff}\"" ∷ codes "\\u{e000}\"" ∷ []) ≡ Some (237 ∷ 159 ∷ 191 ∷ []) ∷ None ∷ Some (238 ∷ 128 ∷ 128 ∷ []) ∷ []
+around_surrogates : map literal_value (codes "\\u{d7ff}\"" ∷ codes "\\u{dfff}\"" ∷ codes "\\u{e000}\"" ∷ []) ≡ Some (237 ∷ 159 ∷ 191 ∷ []) ∷ None ∷ Some (238 ∷ 128 ∷ 128 ∷ []) ∷ []
 unfolding encode
 around_surrogates = refl
 
-first_and_last_character : map inside (codes "\\u{0}\"" ∷ codes "\\u{10ffff}\"" ∷ codes "\\u{ffffff}\"" ∷ []) ≡ Some (0 ∷ []) ∷ Some (244 ∷ 143 ∷ 191 ∷ 191 ∷ []) ∷ None ∷ []
+first_and_last_character : map literal_value (codes "\\u{0}\"" ∷ codes "\\u{10ffff}\"" ∷ codes "\\u{ffffff}\"" ∷ []) ≡ Some (0 ∷ []) ∷ Some (244 ∷ 143 ∷ 191 ∷ 191 ∷ []) ∷ None ∷ []
 unfolding encode
 first_and_last_character = refl
 
-broken_escapes : map inside (codes "\\u41\"" ∷ codes "\\u{41\"" ∷ codes "\\u{4g}\"" ∷ codes "\\U{41}\"" ∷ codes "\\x41\"" ∷ codes "\\'\"" ∷ codes "\\0\"" ∷ codes "\\\"" ∷ codes "\\" ∷ codes "\\u" ∷ codes "\\u{" ∷ []) ≡ None ∷ None ∷ None ∷ None ∷ None ∷ None ∷ None ∷ None ∷ None ∷ None ∷ None ∷ []
+broken_escapes : map literal_value (codes "\\u41\"" ∷ codes "\\u{41\"" ∷ codes "\\u{4g}\"" ∷ codes "\\U{41}\"" ∷ codes "\\x41\"" ∷ codes "\\'\"" ∷ codes "\\0\"" ∷ codes "\\\"" ∷ codes "\\" ∷ codes "\\u" ∷ codes "\\u{" ∷ []) ≡ None ∷ None ∷ None ∷ None ∷ None ∷ None ∷ None ∷ None ∷ None ∷ None ∷ None ∷ []
 broken_escapes = refl
 
-behind_an_escape : inside (codes "a\\n\\u{41}b\"") ≡ Some (codes "a\nAb")
+behind_an_escape : literal_value (codes "a\\n\\u{41}b\"") ≡ Some (codes "a\nAb")
 unfolding encode
 behind_an_escape = refl
 

@@ -8,7 +8,7 @@ use Rattle.cd_elem.specs.declared.token.Sign.{Sign}
 use Rattle.cd_elem.specs.declared.token.Sign.TheVariants as sign
 use Rattle.cd_elem.specs.declared.token.Token.{Token}
 use Rattle.cd_elem.specs.declared.token.Token.TheVariants as token
-use Rattle.cd_grammar.specs.Literals.{inside}
+use Rattle.cd_grammar.specs.Literals.{literal_value}
 use Rattle.cd_grammar.specs.Reserved.{reserved}
 
 abbrev pub one_sign : ℕ → Option Sign
@@ -40,38 +40,38 @@ whole_sign (c ∷ d ∷ []) = if c == 124 then bar_sign d else None
 whole_sign (c ∷ d ∷ e ∷ cs) = None
 
 -- an identifier is a name where it is not reserved
-abbrev pub named : List ℕ → Option Keyword → Token
-named name None = token.Named name
-named name (Some k) = token.Word k
+abbrev pub name_or_keyword : List ℕ → Option Keyword → Token
+name_or_keyword name None = token.Named name
+name_or_keyword name (Some k) = token.Word k
 
-abbrev pub value : List ℕ → ℕ
-value ds = fold (λ n d. 10 * n + (d - 48)) 0 ds
+abbrev pub decimal_value : List ℕ → ℕ
+decimal_value ds = fold (λ n d. 10 * n + (d - 48)) 0 ds
 
 -- None past 2^64 - 1
-abbrev pub number : List ℕ → Option ℕ
-number ds = if nat_lt (value ds) (2 ^ 64) then Some (value ds) else None
+abbrev pub number_value : List ℕ → Option ℕ
+number_value ds = if nat_lt (decimal_value ds) (2 ^ 64) then Some (decimal_value ds) else None
 
 abbrev pub is_empty : List ℕ → Bool
 is_empty [] = true
 is_empty (c ∷ cs) = false
 
-abbrev pub quoted : Option (List ℕ) → Option Token
-quoted None = None
-quoted (Some s) = Some (token.Text s)
+abbrev pub text_token : Option (List ℕ) → Option Token
+text_token None = None
+text_token (Some s) = Some (token.Text s)
 
-abbrev pub signed : Option Sign → Option Token
-signed None = None
-signed (Some s) = Some (token.Sign s)
+abbrev pub sign_token : Option Sign → Option Token
+sign_token None = None
+sign_token (Some s) = Some (token.Sign s)
 
 -- the token that this whole text is
 abbrev pub whole_token : List ℕ → Option Token
 whole_token [] = None
 whole_token (c ∷ cs) =
-    if is_ascii_alphabetic c then (if list_all is_ascii_alphanumeric cs then Some (named (c ∷ cs) (reserved (c ∷ cs))) else None)
+    if is_ascii_alphabetic c then (if list_all is_ascii_alphanumeric cs then Some (name_or_keyword (c ∷ cs) (reserved (c ∷ cs))) else None)
     else (if c == 48 then (if is_empty cs then Some (token.Number (Some 0)) else None)
-    else (if is_ascii_digit c then (if list_all is_ascii_digit cs then Some (token.Number (number (c ∷ cs))) else None)
-    else (if c == 34 then quoted (inside cs)
-    else signed (whole_sign (c ∷ cs)))))
+    else (if is_ascii_digit c then (if list_all is_ascii_digit cs then Some (token.Number (number_value (c ∷ cs))) else None)
+    else (if c == 34 then text_token (literal_value cs)
+    else sign_token (whole_sign (c ∷ cs)))))
 
 -- the first n bytes are this token, and no longer front is a token
 pub record IsLongest (text : List ℕ) (t : Token) (n : ℕ) : Type 0 where

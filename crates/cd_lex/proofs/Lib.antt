@@ -2,7 +2,7 @@ pub mod Closing
 pub mod Digits
 pub mod Escapes
 pub mod Finds
-pub mod Fronts
+pub mod TextFronts
 pub mod Gaps
 pub mod Longest
 pub mod Nexts

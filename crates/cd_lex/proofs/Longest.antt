@@ -8,12 +8,12 @@ use Rattle.cd_elem.specs.declared.token.Token.{Token}
 use Rattle.cd_elem.specs.declared.token.Token.TheVariants as token
 use Rattle.cd_elem.specs.declared.token.Sign.{Sign}
 use Rattle.cd_elem.specs.declared.token.Sign.TheVariants as sign
-use Rattle.cd_grammar.specs.Literals.{inside}
+use Rattle.cd_grammar.specs.Literals.{literal_value}
 use Rattle.cd_grammar.specs.Reserved.{reserved}
 use Rattle.cd_grammar.specs.Tokens as x
-use Rattle.cd_lex.specs.Quotes.{found_from, plain, text_found, text_of}
+use Rattle.cd_lex.specs.Quotes.{literal_from, plain, literal_found, literal_token}
 use Rattle.cd_lex.proofs.Closing.{ScanOk, inside_ok}
-use Rattle.cd_lex.specs.Scanner as s
+use Rattle.cd_lex.specs.LongestToken as s
 
 module _ (p : ℕ → Bool) where
   passes-more : (b : Bool) (c : ℕ) (cs : List ℕ) → p c ≡ b → list_all p (take (prefix_len p cs) cs) ≡ true
@@ -59,14 +59,14 @@ zero_alone c cs h = record { within = omega arith; token = h []; longest = longe
   longer (d ∷ cs) (suc (suc m)) l k = h (d ∷ take m cs)
 
 -- signs
-module _ (c : ℕ) (h : (ds : List ℕ) → x.whole_token (c ∷ ds) ≡ x.signed (x.whole_sign (c ∷ ds))) where
-  lone : (o : Option Sign) → x.one_sign c ≡ o → s.Scans (c ∷ []) (s.sized 1 o)
+module _ (c : ℕ) (h : (ds : List ℕ) → x.whole_token (c ∷ ds) ≡ x.sign_token (x.whole_sign (c ∷ ds))) where
+  lone : (o : Option Sign) → x.one_sign c ≡ o → s.FindsLongest (c ∷ []) (s.sign_of_size 1 o)
   lone None e = none where
     none : x.HasNoToken (c ∷ [])
     none zero = refl
-    none (suc zero) = h [] ∙ ap x.signed e
-    none (suc (suc m)) = h [] ∙ ap x.signed e
-  lone (Some t) e = record { within = omega arith; token = h [] ∙ ap x.signed e; longest = λ m l k. absurd (omega (arith, l, k)) }
+    none (suc zero) = h [] ∙ ap x.sign_token e
+    none (suc (suc m)) = h [] ∙ ap x.sign_token e
+  lone (Some t) e = record { within = omega arith; token = h [] ∙ ap x.sign_token e; longest = λ m l k. absurd (omega (arith, l, k)) }
 
   third : (d : ℕ) (ds : List ℕ) (m : ℕ) → suc (suc (suc m)) ≤ length (c ∷ d ∷ ds) → x.whole_token (take (suc (suc (suc m))) (c ∷ d ∷ ds)) ≡ None
   third d [] m k = absurd (omega arith)
@@ -75,17 +75,17 @@ module _ (c : ℕ) (h : (ds : List ℕ) → x.whole_token (c ∷ ds) ≡ x.signe
   second : (d : ℕ) (ds : List ℕ) → x.whole_sign (c ∷ d ∷ []) ≡ None → (m : ℕ) → 1 < m → m ≤ length (c ∷ d ∷ ds) → x.whole_token (take m (c ∷ d ∷ ds)) ≡ None
   second d ds e zero l k = absurd (omega arith)
   second d ds e (suc zero) l k = absurd (omega arith)
-  second d ds e (suc (suc zero)) l k = h (d ∷ []) ∙ ap x.signed e
+  second d ds e (suc (suc zero)) l k = h (d ∷ []) ∙ ap x.sign_token e
   second d ds e (suc (suc (suc m))) l k = third d ds m k
 
   no_third : (d : ℕ) (ds : List ℕ) (m : ℕ) → x.whole_sign (c ∷ d ∷ []) ≡ None → x.whole_token (take (suc (suc (suc m))) (c ∷ d ∷ ds)) ≡ None
-  no_third d [] m e = h (d ∷ []) ∙ ap x.signed e
+  no_third d [] m e = h (d ∷ []) ∙ ap x.sign_token e
   no_third d (f ∷ ds) m e = h (d ∷ f ∷ take m ds)
 
   none_at : (d : ℕ) (ds : List ℕ) → x.one_sign c ≡ None → x.whole_sign (c ∷ d ∷ []) ≡ None → x.HasNoToken (c ∷ d ∷ ds)
   none_at d ds e f zero = refl
-  none_at d ds e f (suc zero) = h [] ∙ ap x.signed e
-  none_at d ds e f (suc (suc zero)) = h (d ∷ []) ∙ ap x.signed f
+  none_at d ds e f (suc zero) = h [] ∙ ap x.sign_token e
+  none_at d ds e f (suc (suc zero)) = h (d ∷ []) ∙ ap x.sign_token f
   none_at d ds e f (suc (suc (suc m))) = no_third d ds m f
 
   after_two : (d : ℕ) (ds : List ℕ) (m : ℕ) → 2 < m → m ≤ length (c ∷ d ∷ ds) → x.whole_token (take m (c ∷ d ∷ ds)) ≡ None
@@ -94,56 +94,56 @@ module _ (c : ℕ) (h : (ds : List ℕ) → x.whole_token (c ∷ ds) ≡ x.signe
   after_two d ds (suc (suc zero)) l k = absurd (omega arith)
   after_two d ds (suc (suc (suc m))) l k = third d ds m k
 
-  barred : (d : ℕ) (ds : List ℕ) (o : Option Sign) → x.one_sign c ≡ Some (sign.Operator join.Plain) → x.whole_sign (c ∷ d ∷ []) ≡ o → s.Scans (c ∷ d ∷ ds) (s.bar o)
-  barred d ds None e f = record { within = omega arith; token = h [] ∙ ap x.signed e; longest = second d ds f }
-  barred d ds (Some t) e f = record { within = omega arith; token = h (d ∷ []) ∙ ap x.signed f; longest = after_two d ds }
+  barred : (d : ℕ) (ds : List ℕ) (o : Option Sign) → x.one_sign c ≡ Some (sign.Operator join.Plain) → x.whole_sign (c ∷ d ∷ []) ≡ o → s.FindsLongest (c ∷ d ∷ ds) (s.bar_found o)
+  barred d ds None e f = record { within = omega arith; token = h [] ∙ ap x.sign_token e; longest = second d ds f }
+  barred d ds (Some t) e f = record { within = omega arith; token = h (d ∷ []) ∙ ap x.sign_token f; longest = after_two d ds }
 
-  unbarred : (d : ℕ) (ds : List ℕ) (o : Option Sign) → x.one_sign c ≡ o → x.whole_sign (c ∷ d ∷ []) ≡ None → s.Scans (c ∷ d ∷ ds) (s.sized 1 o)
+  unbarred : (d : ℕ) (ds : List ℕ) (o : Option Sign) → x.one_sign c ≡ o → x.whole_sign (c ∷ d ∷ []) ≡ None → s.FindsLongest (c ∷ d ∷ ds) (s.sign_of_size 1 o)
   unbarred d ds None e f = none_at d ds e f
-  unbarred d ds (Some t) e f = record { within = omega arith; token = h [] ∙ ap x.signed e; longest = second d ds f }
+  unbarred d ds (Some t) e f = record { within = omega arith; token = h [] ∙ ap x.sign_token e; longest = second d ds f }
 
-  by_bar : (b : Bool) (d : ℕ) (ds : List ℕ) → (c == 124) ≡ b → s.Scans (c ∷ d ∷ ds) (if b then s.bar (x.bar_sign d) else s.sized 1 (x.one_sign c))
+  by_bar : (b : Bool) (d : ℕ) (ds : List ℕ) → (c == 124) ≡ b → s.FindsLongest (c ∷ d ∷ ds) (if b then s.bar_found (x.bar_sign d) else s.sign_of_size 1 (x.one_sign c))
   by_bar true d ds e = barred d ds (x.bar_sign d) (rw e refl) (rw e refl)
   by_bar false d ds e = unbarred d ds (x.one_sign c) refl (rw e refl)
 
-  signs : (cs : List ℕ) → s.Scans (c ∷ cs) (s.sign_found c cs)
+  signs : (cs : List ℕ) → s.FindsLongest (c ∷ cs) (s.sign_found c cs)
   signs [] = lone (x.one_sign c) refl
   signs (d ∷ ds) = by_bar (c == 124) d ds refl
 
 -- literals
-text : (c : ℕ) (cs : List ℕ) (o : Option (List ℕ × ℕ)) → ((ds : List ℕ) → x.whole_token (c ∷ ds) ≡ x.quoted (inside ds)) → ScanOk inside cs o → s.Scans (c ∷ cs) (text_of o)
+text : (c : ℕ) (cs : List ℕ) (o : Option (List ℕ × ℕ)) → ((ds : List ℕ) → x.whole_token (c ∷ ds) ≡ x.text_token (literal_value ds)) → ScanOk literal_value cs o → s.FindsLongest (c ∷ cs) (literal_token o)
 text c cs None h a = none where
-  none : s.Scans (c ∷ cs) None
+  none : s.FindsLongest (c ∷ cs) None
   none zero = refl
-  none (suc m) = h (take m cs) ∙ ap x.quoted (a m)
+  none (suc m) = h (take m cs) ∙ ap x.text_token (a m)
 text c cs (Some f) h a = record {
   within = omega (arith, a.within);
-  token = rw (add-one f.1) (h (take f.1 cs) ∙ ap x.quoted a.value);
+  token = rw (add-one f.1) (h (take f.1 cs) ∙ ap x.text_token a.value);
   longest = longer;
 } where
   longer : (m : ℕ) → f.1 + 1 < m → m ≤ length (c ∷ cs) → x.whole_token (take m (c ∷ cs)) ≡ None
   longer zero l k = absurd (omega arith)
-  longer (suc m) l k = h (take m cs) ∙ ap x.quoted (a.longer m (omega arith) (omega arith))
+  longer (suc m) l k = h (take m cs) ∙ ap x.text_token (a.longer m (omega arith) (omega arith))
 
 by_class : (a z n q : Bool) (c : ℕ) (cs : List ℕ) → is_ascii_alphabetic c ≡ a → (c == 48) ≡ z → is_ascii_digit c ≡ n → (c == 34) ≡ q
-    → s.Scans (c ∷ cs) (if a then s.name_found (c ∷ cs) (suc (prefix_len is_ascii_alphanumeric cs))
+    → s.FindsLongest (c ∷ cs) (if a then s.name_found (c ∷ cs) (suc (prefix_len is_ascii_alphanumeric cs))
     else (if z then Some (token.Number (Some 0), 1)
     else (if n then s.number_found (c ∷ cs) (suc (prefix_len is_ascii_digit cs))
-    else (if q then text_found cs else s.sign_found c cs))))
-by_class true z n q c cs e f g k = run is_ascii_alphanumeric (λ ds. x.named ds (reserved ds)) c cs (λ ds. rw e refl)
+    else (if q then literal_found cs else s.sign_found c cs))))
+by_class true z n q c cs e f g k = run is_ascii_alphanumeric (λ ds. x.name_or_keyword ds (reserved ds)) c cs (λ ds. rw e refl)
 by_class false true n q c cs e f g k = zero_alone c cs (λ ds. rw (e, f) refl)
-by_class false false true q c cs e f g k = run is_ascii_digit (λ ds. token.Number (x.number ds)) c cs (λ ds. rw (e, f, g) refl)
-by_class false false false true c cs e f g k = text c cs (found_from plain cs) (λ ds. rw (e, f, g, k) refl) (inside_ok cs)
+by_class false false true q c cs e f g k = run is_ascii_digit (λ ds. token.Number (x.number_value ds)) c cs (λ ds. rw (e, f, g) refl)
+by_class false false false true c cs e f g k = text c cs (literal_from plain cs) (λ ds. rw (e, f, g, k) refl) (inside_ok cs)
 by_class false false false false c cs e f g k = signs c (λ ds. rw (e, f, g, k) refl) cs
 
 -- what is found is the longest token, and nothing is found only where there is no token
-pub scans : (text : List ℕ) → s.Scans text (s.found text)
+pub scans : (text : List ℕ) → s.FindsLongest text (s.token_found text)
 scans [] = none where
   none : x.HasNoToken []
   none zero = refl
   none (suc m) = refl
 scans (c ∷ cs) = by_class (is_ascii_alphabetic c) (c == 48) (is_ascii_digit c) (c == 34) c cs refl refl refl refl
 
-pub scans_ok : {E : Type 0} (text : List ℕ) (r : Result s.Found E) → IfOk r (λ f. f ≡ s.found text) → IfOk r (λ f. s.Scans text f)
-scans_ok text (Ok f) h = let P : s.Found → Type 0 = λ g. s.Scans text g in subst P (sym h) (scans text)
+pub scans_ok : {E : Type 0} (text : List ℕ) (r : Result s.FoundToken E) → IfOk r (λ f. f ≡ s.token_found text) → IfOk r (λ f. s.FindsLongest text f)
+scans_ok text (Ok f) h = let P : s.FoundToken → Type 0 = λ g. s.FindsLongest text g in subst P (sym h) (scans text)
 scans_ok text (Err e) h = tt

@@ -3,7 +3,7 @@ use Rattle.std.proofs.Common.{◌≡◌, ℕ, zero, suc, ◌+◌, ◌-◌, ◌�
 use Rattle.std.proofs.lemmas.List.{take_all}
 use Rattle.cd_elem.specs.declared.token.Token.{Token}
 use Rattle.cd_grammar.specs.Tokens.{IsLongest, whole_token}
-use Rattle.cd_grammar.specs.Lexemes.{IsNext, is_glued, begins_digit, gap}
+use Rattle.cd_grammar.specs.Lexemes.{IsNext, is_glued, begins_digit, gap_length}
 
 -- a slice from a place on
 pub tail-is : (xs : List ℕ) (at : ℕ) → take (length xs - at) (drop at xs) ≡ drop at xs
@@ -20,7 +20,7 @@ pub positive : (xs : List ℕ) (t : Token) (size : ℕ) → whole_token (take si
 positive xs t zero e = let f : ⊥ = cc in absurd f
 positive xs t (suc n) e = omega arith
 
-pub next : (text : List ℕ) (at n : ℕ) (z : Bool) (t : Token) (size : ℕ) → n ≡ gap false (take (length text - at) (drop at text))
+pub next : (text : List ℕ) (at n : ℕ) (z : Bool) (t : Token) (size : ℕ) → n ≡ gap_length false (take (length text - at) (drop at text))
     → is_glued z (drop at text) ≡ false → IsLongest (take (length text - (at + n)) (drop (at + n) text)) t size → at + n ≤ length text
     → IsNext text at z (record { token = t; at = at + n }) size × (at < at + n + size) × (at + n + size ≤ length text)
 next text at n z t size e f l k =
@@ -29,7 +29,7 @@ next text at n z t size e f l k =
     let p = positive (drop (at + n) text) t size m.token in
     let w = m.within in
     let d = length-drop (at + n) text in (
-      record { place = ap (λ k. at + k) (e ∙ ap (gap false) (tail-is text at)); apart = f; longest = m },
+      record { place = ap (λ k. at + k) (e ∙ ap (gap_length false) (tail-is text at)); apart = f; longest = m },
       omega (arith, p),
       omega (arith, w, d),
     )

@@ -8,7 +8,7 @@ use Rattle.std.proofs.lemmas.Fmt.{decimal_digit, digits_decimal, digits_value-de
 use Rattle.std.proofs.lemmas.Str.Parse.{FoldsDigits, IsDigitsTest, IsNumeralModel, numerals_by_fold}
 use Rattle.std.specs.Int.{IsInRange}
 use Rattle.cd_elem.specs.declared.token.Token.TheVariants as token
-use Rattle.cd_grammar.specs.Tokens.{value, whole_token}
+use Rattle.cd_grammar.specs.Tokens.{decimal_value, whole_token}
 use Rattle.cd_lex.proofs.Utf8.{both, differs}
 use Rattle.cd_lex.proofs.SpelledWords.{IsWritten}
 
@@ -34,13 +34,13 @@ from n ds = fold (λ n d. 10 * n + (d - 48)) n ds
 folds : FoldsDigits from
 folds = record { empty = λ n. refl; more = λ n c cs r. let e : 10 * n + (c - 48) ≡ n * 10 + (c - 48) = omega arith in ap (λ m. from m cs) e }
 
-model : IsNumeralModel AllDigit value
+model : IsNumeralModel AllDigit decimal_value
 model = numerals_by_fold AllDigit digits_test from folds
 
 no_letter : (c : ℕ) → is_ascii_digit c ≡ true → is_ascii_alphabetic c ≡ false
 no_letter c e = grind (arith, nat_tests)
 
-digits_whole : (ds : List ℕ) (n : ℕ) → AllDigit ds → value ds ≡ n → n < 2 ^ 64 → 0 < length ds → 48 < get_or ds 0 0 → whole_token ds ≡ Some (token.Number (Some n))
+digits_whole : (ds : List ℕ) (n : ℕ) → AllDigit ds → decimal_value ds ≡ n → n < 2 ^ 64 → 0 < length ds → 48 < get_or ds 0 0 → whole_token ds ≡ Some (token.Number (Some n))
 digits_whole [] n a v h l f = absurd (omega arith)
 digits_whole (c ∷ cs) n a v h l f =
     let b = both (is_ascii_digit c) (list_all is_ascii_digit cs) a in

@@ -6,7 +6,7 @@ use Rattle.cd_elem.specs.declared.token.Sign.{Sign}
 use Rattle.cd_elem.specs.declared.token.Sign.TheVariants as sign
 use Rattle.cd_elem.specs.declared.token.Token.{Token}
 use Rattle.cd_elem.specs.declared.token.Token.TheVariants as token
-use Rattle.cd_grammar.specs.CanonicalText.{is_call, is_closing, is_opening, is_paren, space, spelled_behind}
+use Rattle.cd_grammar.specs.CanonicalText.{is_call, takes_no_blank_before, takes_no_blank_behind, is_paren, blank_between, spelled_behind}
 use Rattle.cd_grammar.specs.Lexemes.{is_glued, is_zero}
 use Rattle.cd_grammar.specs.Spelling.{spelled}
 use Rattle.cd_grammar.specs.Tokens.{bar_sign}
@@ -61,13 +61,13 @@ untrue : false ≡ true → ⊥
 untrue e = cc
 
 -- Behind an opening sign anything stands, and a closing sign and a parenthesis stand behind anything.
-opening_parts : (t : Token) (cs : List ℕ) → is_opening t ≡ true → ends_before t cs ≡ true
+opening_parts : (t : Token) (cs : List ℕ) → takes_no_blank_behind t ≡ true → ends_before t cs ≡ true
 opening_parts t [] e = refl
 opening_parts (token.Sign sign.OpenParen) (c ∷ cs) e = refl
 opening_parts (token.Sign sign.OpenSquare) (c ∷ cs) e = refl
 opening_parts t (c ∷ cs) e = absurd (untrue e)
 
-closing_apart : (t : Token) (cs : List ℕ) → is_closing t ≡ true → BeginsApart (spelled t ++ cs)
+closing_apart : (t : Token) (cs : List ℕ) → takes_no_blank_before t ≡ true → BeginsApart (spelled t ++ cs)
 closing_apart (token.Sign sign.CloseParen) cs e = record { no_name = refl; no_digit = refl; no_bar = refl }
 closing_apart (token.Sign sign.CloseSquare) cs e = record { no_name = refl; no_digit = refl; no_bar = refl }
 closing_apart (token.Sign sign.Comma) cs e = record { no_name = refl; no_digit = refl; no_bar = refl }
@@ -78,7 +78,7 @@ paren_apart : (t : Token) (cs : List ℕ) → is_paren t ≡ true → BeginsApar
 paren_apart (token.Sign sign.OpenParen) cs e = record { no_name = refl; no_digit = refl; no_bar = refl }
 paren_apart t cs e = absurd (untrue e)
 
-by_space : (o c k p : Bool) (before t : Token) (cs : List ℕ) → is_opening before ≡ o → is_closing t ≡ c → is_paren t ≡ p
+by_space : (o c k p : Bool) (before t : Token) (cs : List ℕ) → takes_no_blank_behind before ≡ o → takes_no_blank_before t ≡ c → is_paren t ≡ p
     → ends_before before ((if o || (c || (k && p)) then [] else 32 ∷ []) ++ (spelled t ++ cs)) ≡ true
 by_space true c k p before t cs e f g = opening_parts before (spelled t ++ cs) e
 by_space false true k p before t cs e f g = ends_apart before (spelled t ++ cs) (closing_apart t cs f)
@@ -90,8 +90,8 @@ by_space false false false p before t cs e f g = parts_each before 32 (record { 
 pub behind_parts : (t : Token) (ts : List Token) (more : List ℕ) → ends_before t (spelled_behind t ts ++ 10 ∷ more) ≡ true
 behind_parts t [] more = parts_each t 10 (record { no_name = refl; no_digit = refl; no_bar = refl })
 behind_parts t (u ∷ ts) more =
-    ap (ends_before t) (append_assoc (space t u) (spelled u ++ spelled_behind u ts) (10 ∷ more) ∙ ap (λ cs. space t u ++ cs) (append_assoc (spelled u) (spelled_behind u ts) (10 ∷ more)))
-    ∙ by_space (is_opening t) (is_closing u) (is_call t) (is_paren u) t u (spelled_behind u ts ++ 10 ∷ more) refl refl refl
+    ap (ends_before t) (append_assoc (blank_between t u) (spelled u ++ spelled_behind u ts) (10 ∷ more) ∙ ap (λ cs. blank_between t u ++ cs) (append_assoc (spelled u) (spelled_behind u ts) (10 ∷ more)))
+    ∙ by_space (takes_no_blank_behind t) (takes_no_blank_before u) (is_call t) (is_paren u) t u (spelled_behind u ts ++ 10 ∷ more) refl refl refl
 
 never_both : (a b : Bool) → not b ≡ true → (a && b) ≡ false
 never_both true true e = let f : ⊥ = cc in absurd f

@@ -8,11 +8,11 @@ use lib.Utf8.{encode, encodes, scalar, scalars, low_scalar}
 use lib.Utf8.{next as after_first}
 use Rattle.cd_elem.specs.Base16.{hex_value}
 use Rattle.cd_grammar.specs.Literals.{short_escape}
-use Rattle.cd_lex.specs.declared.literal.Reading.{Reading}
-use Rattle.cd_lex.specs.declared.literal.Reading.TheVariants.{Plain, Escape, Unicode, Digits}
-use Rattle.cd_lex.specs.declared.literal.Read.{Read}
-use Rattle.cd_lex.specs.declared.literal.Read.TheVariants.{Closes, Fails, Goes, Byte, Char}
-use Rattle.cd_lex.specs.Quotes.{read, escape_of, scalar_of, digit_of, pick, longer, found_from}
+use Rattle.cd_lex.specs.declared.literal.LiteralState.{LiteralState}
+use Rattle.cd_lex.specs.declared.literal.LiteralState.TheVariants.{Plain, Escape, Unicode, Digits}
+use Rattle.cd_lex.specs.declared.literal.LiteralStep.{LiteralStep}
+use Rattle.cd_lex.specs.declared.literal.LiteralStep.TheVariants.{Closes, Fails, Goes, Byte, Char}
+use Rattle.cd_lex.specs.Quotes.{read_byte, escape_of, scalar_of, digit_of, read_on, longer, literal_from}
 
 pub never : {A : Type 0} {x : A} → None ≡ Some x → ⊥
 never e = cc
@@ -38,7 +38,7 @@ short_of false false false true t b e = let f = same_some e in omega (arith, f)
 short_of false false false false true b e = let f = same_some e in omega (arith, f)
 short_of false false false false false b e = absurd (never e)
 
-no_byte : (p : Bool) (b : ℕ) (r : Reading) → (if p then Goes r else Fails) ≡ Byte b → ⊥
+no_byte : (p : Bool) (b : ℕ) (r : LiteralState) → (if p then Goes r else Fails) ≡ Byte b → ⊥
 no_byte true b r e = cc
 no_byte false b r e = cc
 
@@ -56,7 +56,7 @@ digits_byte true false r n v k b e = cc
 digits_byte false q true n v k b e = digit_byte (hex_value k) n v b e
 digits_byte false q false n v k b e = cc
 
-byte_low : (r : Reading) (k b : ℕ) → k < 128 → read r k ≡ Byte b → b < 128
+byte_low : (r : LiteralState) (k b : ℕ) → k < 128 → read_byte r k ≡ Byte b → b < 128
 byte_low Plain k b h e = let f = plain_byte (k == 34) (k == 92) (k == 10) k b e in omega (arith, f, h)
 byte_low Escape k b h e = short_of (k == 92) (k == 34) (k == 110) (k == 114) (k == 116) b (escape_byte (short_escape k) k b e)
 byte_low Unicode k b h e = absurd (no_byte (k == 123) b (Digits 0 0) e)
@@ -68,7 +68,7 @@ plain_char false true r k c e = cc
 plain_char false false true k c e = cc
 plain_char false false false k c e = cc
 
-no_char : (p : Bool) (c : ℕ) (r : Reading) → (if p then Goes r else Fails) ≡ Char c → ⊥
+no_char : (p : Bool) (c : ℕ) (r : LiteralState) → (if p then Goes r else Fails) ≡ Char c → ⊥
 no_char true c r e = cc
 no_char false c r e = cc
 
@@ -90,7 +90,7 @@ digits_char true r n v k c e = closed_char (nat_lt 0 n) (scalar v) v c refl e
 digits_char false true n v k c e = absurd (digit_char (hex_value k) n v c e)
 digits_char false false n v k c e = let f : ⊥ = cc in absurd f
 
-char_scalar : (r : Reading) (k c : ℕ) → read r k ≡ Char c → scalar c ≡ true
+char_scalar : (r : LiteralState) (k c : ℕ) → read_byte r k ≡ Char c → scalar c ≡ true
 char_scalar Plain k c e = absurd (plain_char (k == 34) (k == 92) (k == 10) k c e)
 char_scalar Escape k c e = absurd (escape_char (short_escape k) k c e)
 char_scalar Unicode k c e = absurd (no_char (k == 123) c (Digits 0 0) e)
@@ -101,9 +101,9 @@ lengthened : (w : List ℕ) (o : Option (List ℕ × ℕ)) (f : List ℕ × ℕ)
 lengthened w None f e u h = absurd (never e)
 lengthened w (Some g) f e u h = subst IsUtf8 (ap (λ x. x.0) (same_some e)) (IsUtf8-append w g.0 u (h g refl))
 
-picked : (x : Read) (more : Reading → Option (List ℕ × ℕ)) (f : List ℕ × ℕ) → pick x more ≡ Some f
+picked : (x : LiteralStep) (more : LiteralState → Option (List ℕ × ℕ)) (f : List ℕ × ℕ) → read_on x more ≡ Some f
     → ((b : ℕ) → x ≡ Byte b → b < 128) → ((c : ℕ) → x ≡ Char c → scalar c ≡ true)
-    → ((r : Reading) (g : List ℕ × ℕ) → more r ≡ Some g → IsUtf8 g.0) → IsUtf8 f.0
+    → ((r : LiteralState) (g : List ℕ × ℕ) → more r ≡ Some g → IsUtf8 g.0) → IsUtf8 f.0
 picked Closes more f e low sc h = subst IsUtf8 (ap (λ x. x.0) (same_some e)) IsUtf8-nil
 picked Fails more f e low sc h = absurd (never e)
 picked (Goes r) more f e low sc h = lengthened [] (more r) f e IsUtf8-nil (h r)
@@ -121,7 +121,7 @@ differs c d h = grind (arith, nat_tests)
 apart : (b d : ℕ) → 128 ≤ b → d < 128 → (b == d) ≡ false
 apart b d h k = differs b d (λ e. omega (arith, e, h, k))
 
-high_plain : (b : ℕ) → 128 ≤ b → read Plain b ≡ Byte b
+high_plain : (b : ℕ) → 128 ≤ b → read_byte Plain b ≡ Byte b
 high_plain b h = rw (apart b 34 h (omega arith), apart b 92 h (omega arith), apart b 10 h (omega arith)) refl
 
 no_hex : (b : ℕ) → 128 ≤ b → hex_value b ≡ None
@@ -134,18 +134,18 @@ few : (p : Bool) (n v : ℕ) → (if p then digit_of n v None else Fails) ≡ Fa
 few true n v = refl
 few false n v = refl
 
-high_escape : (b : ℕ) → 128 ≤ b → read Escape b ≡ Fails
+high_escape : (b : ℕ) → 128 ≤ b → read_byte Escape b ≡ Fails
 high_escape b h = rw (no_short b h, apart b 117 h (omega arith)) refl
 
-high_unicode : (b : ℕ) → 128 ≤ b → read Unicode b ≡ Fails
+high_unicode : (b : ℕ) → 128 ≤ b → read_byte Unicode b ≡ Fails
 high_unicode b h = rw (apart b 123 h (omega arith)) refl
 
-high_digits : (n v b : ℕ) → 128 ≤ b → read (Digits n v) b ≡ Fails
+high_digits : (n v b : ℕ) → 128 ≤ b → read_byte (Digits n v) b ≡ Fails
 high_digits n v b h = rw (apart b 125 h (omega arith), no_hex b h) (few (nat_lt n 6) n v)
 
 record Rest (bs rest : List ℕ) (f : List ℕ × ℕ) : Type 0 where
   found : List ℕ × ℕ
-  is : found_from Plain rest ≡ Some found
+  is : literal_from Plain rest ≡ Some found
   value : f.0 ≡ bs ++ found.0
 
 one_more : (b : ℕ) (bs rest : List ℕ) (o : Option (List ℕ × ℕ)) (f : List ℕ × ℕ) → longer (b ∷ []) o ≡ Some f
@@ -155,13 +155,13 @@ one_more b bs rest (Some g) f e h =
     let r = h g refl in
     record { found = r.found; is = r.is; value = sym (ap (λ x. x.0) (same_some e)) ∙ ap (λ v. b ∷ v) r.value }
 
-through : (bs rest : List ℕ) (f : List ℕ × ℕ) → AllHigh bs → found_from Plain (bs ++ rest) ≡ Some f → Rest bs rest f
+through : (bs rest : List ℕ) (f : List ℕ × ℕ) → AllHigh bs → literal_from Plain (bs ++ rest) ≡ Some f → Rest bs rest f
 through [] rest f a e = record { found = f; is = e; value = refl }
 through (b ∷ bs) rest f a e =
-    one_more b bs rest (found_from Plain (bs ++ rest)) f (sym (ap (λ x. pick x (λ s. found_from s (bs ++ rest))) (high_plain b a.0)) ∙ e) (λ g k. through bs rest g a.1 k)
+    one_more b bs rest (literal_from Plain (bs ++ rest)) f (sym (ap (λ x. read_on x (λ s. literal_from s (bs ++ rest))) (high_plain b a.0)) ∙ e) (λ g k. through bs rest g a.1 k)
 
-fails : (r : Reading) (b : ℕ) (bs : List ℕ) (f : List ℕ × ℕ) → read r b ≡ Fails → found_from r (b ∷ bs) ≡ Some f → ⊥
-fails r b bs f h e = never (sym (ap (λ x. pick x (λ s. found_from s bs)) h) ∙ e)
+fails : (r : LiteralState) (b : ℕ) (bs : List ℕ) (f : List ℕ × ℕ) → read_byte r b ≡ Fails → literal_from r (b ∷ bs) ≡ Some f → ⊥
+fails r b bs f h e = never (sym (ap (λ x. read_on x (λ s. literal_from s bs)) h) ∙ e)
 
 past_ascii : (x y : Bool) (k : ℕ) → AllHigh (cond x ((192 + k / 64) ∷ after_first k ∷ []) (cond y ((224 + k / 4096) ∷ after_first (k / 64) ∷ after_first k ∷ [])
     ((240 + k / 262144) ∷ after_first (k / 4096) ∷ after_first (k / 64) ∷ after_first k ∷ [])))
@@ -177,7 +177,7 @@ pub high_encode : (k : ℕ) → 128 ≤ k → AllHigh (encode k)
 unfolding encode
 high_encode k h = high_when (nat_lt k 128) (k ∷ []) _ (le-ltb k 128 h) (past_ascii (nat_lt k 2048) (nat_lt k 65536) k)
 
-stops : (r : Reading) (bs rest : List ℕ) (f : List ℕ × ℕ) → ((b : ℕ) → 128 ≤ b → read r b ≡ Fails) → AllHigh bs → 1 ≤ length bs → found_from r (bs ++ rest) ≡ Some f → ⊥
+stops : (r : LiteralState) (bs rest : List ℕ) (f : List ℕ × ℕ) → ((b : ℕ) → 128 ≤ b → read_byte r b ≡ Fails) → AllHigh bs → 1 ≤ length bs → literal_from r (bs ++ rest) ≡ Some f → ⊥
 stops r [] rest f h a l e = omega arith
 stops r (b ∷ bs) rest f h a l e = fails r b (bs ++ rest) f (h b a.0) e
 
@@ -185,8 +185,8 @@ pub both : (p q : Bool) → (p && q) ≡ true → (p ≡ true) × (q ≡ true)
 both true q e = (refl, e)
 both false q e = let f : ⊥ = cc in absurd f
 
-high_char : (r : Reading) (k : ℕ) (rest : List ℕ) (f : List ℕ × ℕ) → 128 ≤ k → scalar k ≡ true → found_from r (encode k ++ rest) ≡ Some f
-    → ((g : List ℕ × ℕ) → found_from Plain rest ≡ Some g → IsUtf8 g.0) → IsUtf8 f.0
+high_char : (r : LiteralState) (k : ℕ) (rest : List ℕ) (f : List ℕ × ℕ) → 128 ≤ k → scalar k ≡ true → literal_from r (encode k ++ rest) ≡ Some f
+    → ((g : List ℕ × ℕ) → literal_from Plain rest ≡ Some g → IsUtf8 g.0) → IsUtf8 f.0
 high_char Plain k rest f h s e ih =
     let r = through (encode k) rest f (high_encode k h) e in
     subst IsUtf8 (sym r.value) (IsUtf8-append (encode k) r.found.0 (IsUtf8-encode k s) (ih r.found r.is))
@@ -194,15 +194,15 @@ high_char Escape k rest f h s e ih = absurd (stops Escape (encode k) rest f high
 high_char Unicode k rest f h s e ih = absurd (stops Unicode (encode k) rest f high_unicode (high_encode k h) (omega (arith, length-encode k, len_utf8_bounds k)) e)
 high_char (Digits n v) k rest f h s e ih = absurd (stops (Digits n v) (encode k) rest f (high_digits n v) (high_encode k h) (omega (arith, length-encode k, len_utf8_bounds k)) e)
 
-value_is_text : (ks : List ℕ) → scalars ks ≡ true → (r : Reading) (f : List ℕ × ℕ) → found_from r (encodes ks) ≡ Some f → IsUtf8 f.0
+value_is_text : (ks : List ℕ) → scalars ks ≡ true → (r : LiteralState) (f : List ℕ × ℕ) → literal_from r (encodes ks) ≡ Some f → IsUtf8 f.0
 value_is_text [] s r f e = absurd (never e)
 value_is_text (k ∷ ks) s r f e =
     let b = both (scalar k) (scalars ks) s in
     elim (cases_lt k 128) [
-      | inl h ↦ picked (read r k) (λ s. found_from s (encodes ks)) f (ap (λ bs. found_from r (bs ++ encodes ks)) (sym (encode_ascii k h)) ∙ e)
+      | inl h ↦ picked (read_byte r k) (λ s. literal_from s (encodes ks)) f (ap (λ bs. literal_from r (bs ++ encodes ks)) (sym (encode_ascii k h)) ∙ e)
           (λ c i. byte_low r k c h i) (λ c i. char_scalar r k c i) (λ q g i. value_is_text ks b.1 q g i)
       | inr h ↦ high_char r k (encodes ks) f h b.0 e (λ g i. value_is_text ks b.1 Plain g i)
     ]
 
-pub is_text : (text : List ℕ) (f : List ℕ × ℕ) → IsUtf8 text → found_from Plain text ≡ Some f → IsUtf8 f.0
-is_text text f u e = value_is_text u.0 u.1.0 Plain f (ap (found_from Plain) u.1.1 ∙ e)
+pub is_text : (text : List ℕ) (f : List ℕ × ℕ) → IsUtf8 text → literal_from Plain text ≡ Some f → IsUtf8 f.0
+is_text text f u e = value_is_text u.0 u.1.0 Plain f (ap (literal_from Plain) u.1.1 ∙ e)

@@ -9,9 +9,9 @@ use Rattle.cd_elem.specs.declared.script.Stmt.{Stmt}
 use Rattle.cd_elem.specs.declared.token.Lexeme.{Lexeme}
 use Rattle.cd_elem.specs.declared.token.Token.{Token}
 use Rattle.cd_elem.specs.declared.token.Token.TheVariants as token
-use Rattle.cd_grammar.specs.Canonical.{canonical, statement_tokens}
-use Rattle.cd_grammar.specs.CanonicalText.{canonical_text, is_call, is_closing, is_opening, is_paren, space, spaced, spelled_behind}
-use Rattle.cd_grammar.specs.Lexemes.{IsNext, Lexes, Stops, Tokenizes, comment_on, gap, in_gap, is_glued, is_zero, next_at}
+use Rattle.cd_grammar.specs.Canonical.{canonical, canonical_statement}
+use Rattle.cd_grammar.specs.CanonicalText.{canonical_text, is_call, takes_no_blank_before, takes_no_blank_behind, is_paren, blank_between, spaced, spelled_behind}
+use Rattle.cd_grammar.specs.Lexemes.{IsNext, Lexes, Stops, Tokenizes, comment_goes_on, gap_length, is_in_gap, is_glued, is_zero, next_at}
 use Rattle.cd_grammar.specs.Refusals.{tokens}
 use Rattle.cd_grammar.specs.Spelling.{spelled}
 use Rattle.cd_grammar.specs.Tokens.{IsLongest, one_sign, whole_token}
@@ -64,7 +64,7 @@ no_token c (d ∷ e ∷ es) a z n q b o = rw (a, z, n, q) refl
 not_this : (c d : ℕ) (cs : List ℕ) (t : Token) → whole_token (c ∷ cs) ≡ Some t → whole_token (d ∷ cs) ≡ None → (c == d) ≡ false
 not_this c d cs t e n = differs c d (λ f. never (sym n ∙ ap (λ k. whole_token (k ∷ cs)) (sym f) ∙ e))
 
-no_gap : (w rest : List ℕ) (t : Token) → whole_token w ≡ Some t → gap false (w ++ rest) ≡ 0
+no_gap : (w rest : List ℕ) (t : Token) → whole_token w ≡ Some t → gap_length false (w ++ rest) ≡ 0
 no_gap [] rest t e = absurd (never e)
 no_gap (c ∷ cs) rest t e =
     rw (
@@ -77,19 +77,19 @@ no_gap (c ∷ cs) rest t e =
 
 -- blanks that begin no comment
 abbrev is_free : ℕ → Bool
-is_free c = in_gap false c && not (comment_on false c)
+is_free c = is_in_gap false c && not (comment_goes_on false c)
 
 not_true : (b : Bool) → not b ≡ true → b ≡ false
 not_true true e = let f : ⊥ = cc in absurd f
 not_true false e = refl
 
-blanks_gap : (bs rest : List ℕ) → list_all is_free bs ≡ true → gap false rest ≡ 0 → gap false (bs ++ rest) ≡ length bs
+blanks_gap : (bs rest : List ℕ) → list_all is_free bs ≡ true → gap_length false rest ≡ 0 → gap_length false (bs ++ rest) ≡ length bs
 blanks_gap [] rest a g = g
 blanks_gap (c ∷ cs) rest a g =
     let b = both (is_free c) (list_all is_free cs) a in
-    let d = both (in_gap false c) (not (comment_on false c)) b.0 in
+    let d = both (is_in_gap false c) (not (comment_goes_on false c)) b.0 in
     let i = blanks_gap cs rest b.1 g in
-    ap (λ q. if q then 1 + gap (comment_on false c) (cs ++ rest) else 0) d.0 ∙ ap (λ q. 1 + gap q (cs ++ rest)) (not_true (comment_on false c) d.1) ∙ omega (arith, i)
+    ap (λ q. if q then 1 + gap_length (comment_goes_on false c) (cs ++ rest) else 0) d.0 ∙ ap (λ q. 1 + gap_length q (cs ++ rest)) (not_true (comment_goes_on false c) d.1) ∙ omega (arith, i)
 
 -- these bytes stand in the text from this place on
 record Stands (text : List ℕ) (at : ℕ) (rest : List ℕ) : Type 0 where
@@ -117,7 +117,7 @@ reads_one : (text : List ℕ) (at : ℕ) (zero : Bool) (b w rest : List ℕ) (t 
 reads_one text at zero b w rest t ts f s g e k r =
     let P : List ℕ → Type 0 = λ cs. IsLongest cs t (length w) in
     let next : IsNext text at zero (record { token = t; at = at + length b }) (length w) = record {
-      place = sym (ap (λ n. at + n) (ap (gap false) s.rest_is ∙ blanks_gap b (w ++ rest) f (no_gap w rest t e)));
+      place = sym (ap (λ n. at + n) (ap (gap_length false) s.rest_is ∙ blanks_gap b (w ++ rest) f (no_gap w rest t e)));
       apart = ap (is_glued zero) s.rest_is ∙ g;
       longest = subst P (sym (past text at b (w ++ rest) s).rest_is) (longest w rest t e k);
     } in
@@ -138,16 +138,16 @@ reads_behind : (text : List ℕ) (at : ℕ) (before : Token) (ts us : List Token
 reads_behind text at before [] us more a s k = k at before s
 reads_behind text at before (t ∷ ts) us more a s k =
     let rest = spelled_behind t ts ++ 10 ∷ more in
-    let e : spelled_behind before (t ∷ ts) ++ 10 ∷ more ≡ space before t ++ (spelled t ++ (spelled_behind t ts ++ 10 ∷ more)) =
-    append_assoc (space before t) (spelled t ++ spelled_behind t ts) (10 ∷ more) ∙ ap (λ cs. space before t ++ cs) (append_assoc (spelled t) (spelled_behind t ts) (10 ∷ more)) in
+    let e : spelled_behind before (t ∷ ts) ++ 10 ∷ more ≡ blank_between before t ++ (spelled t ++ (spelled_behind t ts ++ 10 ∷ more)) =
+    append_assoc (blank_between before t) (spelled t ++ spelled_behind t ts) (10 ∷ more) ∙ ap (λ cs. blank_between before t ++ cs) (append_assoc (spelled t) (spelled_behind t ts) (10 ∷ more)) in
     let P : List ℕ → Type 0 = λ cs. Stands text at cs in
     let here = subst P e s in
-    let there = past text (at + length (space before t)) (spelled t) rest (past text at (space before t) (spelled t ++ rest) here) in
-    reads_one text at (is_zero before) (space before t) (spelled t) rest t (ts ++ us)
-    (by_space (is_opening before || (is_closing t || (is_call before && is_paren t)))) here
+    let there = past text (at + length (blank_between before t)) (spelled t) rest (past text at (blank_between before t) (spelled t ++ rest) here) in
+    reads_one text at (is_zero before) (blank_between before t) (spelled t) rest t (ts ++ us)
+    (by_space (takes_no_blank_behind before || (takes_no_blank_before t || (is_call before && is_paren t)))) here
     (ap (is_glued (is_zero before)) (sym e) ∙ unglued before (spelled_behind before (t ∷ ts) ++ 10 ∷ more) (behind_parts before (t ∷ ts) more))
     a.0.whole (behind_parts t ts more)
-    (reads_behind text (at + length (space before t) + length (spelled t)) t ts us more a.1 there k)
+    (reads_behind text (at + length (blank_between before t) + length (spelled t)) t ts us more a.1 there k)
 
 abbrev lines_text : List (List Token) → List ℕ
 lines_text lines = flat_map (λ ts. spaced ts ++ 10 ∷ []) lines
@@ -159,7 +159,7 @@ newline_unglued false cs = refl
 
 ends_here : (text : List ℕ) (at : ℕ) (zero : Bool) (b : List ℕ) → list_all is_free b ≡ true → Stands text at (b ++ []) → Stops text at zero (next_at text at) true
 ends_here text at zero b f s =
-    let g : gap false (drop at text) ≡ length b = ap (gap false) s.rest_is ∙ blanks_gap b [] f refl in
+    let g : gap_length false (drop at text) ≡ length b = ap (gap_length false) s.rest_is ∙ blanks_gap b [] f refl in
     let l : length (drop at text) ≡ length b = ap length s.rest_is ∙ ap length (append-nil b) in
     let w = s.within in
     record { place = refl; ends = λ e. omega (arith, g, l, w, length-drop at text); none = λ e. let h : ⊥ = cc in absurd h }
@@ -194,8 +194,8 @@ tokenizes_lines lines a =
 pub tokenizes_canonical : (tree : List Stmt) → AllWritten (canonical tree)
     → (lexemes : List Lexeme) × (stop : ℕ) × Tokenizes (canonical_text tree) lexemes stop true × (tokens lexemes ≡ canonical tree)
 tokenizes_canonical tree a =
-    let e : lines_text (map statement_tokens tree) ≡ canonical_text tree = flat_map-map (λ ts. spaced ts ++ 10 ∷ []) statement_tokens tree in
-    let f : flat_map (λ ts. ts) (map statement_tokens tree) ≡ canonical tree = flat_map-map (λ ts. ts) statement_tokens tree in
-    let r = tokenizes_lines (map statement_tokens tree) (subst AllWritten (sym f) a) in
+    let e : lines_text (map canonical_statement tree) ≡ canonical_text tree = flat_map-map (λ ts. spaced ts ++ 10 ∷ []) canonical_statement tree in
+    let f : flat_map (λ ts. ts) (map canonical_statement tree) ≡ canonical tree = flat_map-map (λ ts. ts) canonical_statement tree in
+    let r = tokenizes_lines (map canonical_statement tree) (subst AllWritten (sym f) a) in
     let P : List ℕ → Type 0 = λ text. Tokenizes text r.0 r.1 true in
     (r.0, r.1, subst P e r.2, r.3 ∙ f)

@@ -1,4 +1,4 @@
-pub mod Looking
+pub mod NextLexeme
 pub mod Quotes
-pub mod Scanner
-pub mod Table
+pub mod LongestToken
+pub mod ReservedWords

@@ -5,61 +5,61 @@ use Rattle.cd_elem.specs.declared.token.Token.{Token}
 use Rattle.cd_elem.specs.declared.token.Token.TheVariants as token
 use Rattle.cd_elem.specs.Base16.{hex_value}
 use Rattle.cd_grammar.specs.Literals.{short_escape}
-use Rattle.cd_lex.specs.declared.literal.Reading.{Reading}
-use Rattle.cd_lex.specs.declared.literal.Reading.TheVariants.{Plain, Escape, Unicode, Digits}
-use Rattle.cd_lex.specs.declared.literal.Read.{Read}
-use Rattle.cd_lex.specs.declared.literal.Read.TheVariants.{Closes, Fails, Goes, Byte, Char}
+use Rattle.cd_lex.specs.declared.literal.LiteralState.{LiteralState}
+use Rattle.cd_lex.specs.declared.literal.LiteralState.TheVariants.{Plain, Escape, Unicode, Digits}
+use Rattle.cd_lex.specs.declared.literal.LiteralStep.{LiteralStep}
+use Rattle.cd_lex.specs.declared.literal.LiteralStep.TheVariants.{Closes, Fails, Goes, Byte, Char}
 
-abbrev pub plain : Reading
+abbrev pub plain : LiteralState
 plain = Plain
 
-abbrev pub read_plain : ℕ → Read
+abbrev pub read_plain : ℕ → LiteralStep
 read_plain c = if c == 34 then Closes else (if c == 92 then Goes Escape else (if c == 10 then Fails else Byte c))
 
-abbrev pub escape_of : Option ℕ → ℕ → Read
+abbrev pub escape_of : Option ℕ → ℕ → LiteralStep
 escape_of (Some b) c = Byte b
 escape_of None c = if c == 117 then Goes Unicode else Fails
 
-abbrev pub read_escape : ℕ → Read
+abbrev pub read_escape : ℕ → LiteralStep
 read_escape c = escape_of (short_escape c) c
 
-abbrev pub read_unicode : ℕ → Read
+abbrev pub read_unicode : ℕ → LiteralStep
 read_unicode c = if c == 123 then Goes (Digits 0 0) else Fails
 
-abbrev pub scalar_of : ℕ → ℕ → Read
+abbrev pub scalar_of : ℕ → ℕ → LiteralStep
 scalar_of count value = if nat_lt 0 count && scalar value then Char value else Fails
 
-abbrev pub digit_of : ℕ → ℕ → Option ℕ → Read
+abbrev pub digit_of : ℕ → ℕ → Option ℕ → LiteralStep
 digit_of count value None = Fails
 digit_of count value (Some d) = Goes (Digits (count + 1) (value * 16 + d))
 
-abbrev pub read_digit : ℕ → ℕ → ℕ → Read
+abbrev pub read_digit : ℕ → ℕ → ℕ → LiteralStep
 read_digit count value c =
     if c == 125 then scalar_of count value
     else (if nat_lt count 6 then digit_of count value (hex_value c) else Fails)
 
-abbrev pub read : Reading → ℕ → Read
-read Plain c = read_plain c
-read Escape c = read_escape c
-read Unicode c = read_unicode c
-read (Digits count value) c = read_digit count value c
+abbrev pub read_byte : LiteralState → ℕ → LiteralStep
+read_byte Plain c = read_plain c
+read_byte Escape c = read_escape c
+read_byte Unicode c = read_unicode c
+read_byte (Digits count value) c = read_digit count value c
 
 -- the value and the size of what is behind, with these bytes in front
 abbrev pub longer : List ℕ → Option (List ℕ × ℕ) → Option (List ℕ × ℕ)
 longer front None = None
 longer front (Some found) = Some (front ++ found.0, found.1 + 1)
 
-abbrev pub pick : Read → (Reading → Option (List ℕ × ℕ)) → Option (List ℕ × ℕ)
-pick Closes more = Some ([], 1)
-pick Fails more = None
-pick (Goes r) more = longer [] (more r)
-pick (Byte b) more = longer (b ∷ []) (more Plain)
-pick (Char c) more = longer (encode_utf8 c) (more Plain)
+abbrev pub read_on : LiteralStep → (LiteralState → Option (List ℕ × ℕ)) → Option (List ℕ × ℕ)
+read_on Closes more = Some ([], 1)
+read_on Fails more = None
+read_on (Goes r) more = longer [] (more r)
+read_on (Byte b) more = longer (b ∷ []) (more Plain)
+read_on (Char c) more = longer (encode_utf8 c) (more Plain)
 
 -- the value of the literal that ends first, and how many bytes it takes from here
-abbrev pub found_from : Reading → List ℕ → Option (List ℕ × ℕ)
-found_from r [] = None
-found_from r (c ∷ cs) = pick (read r c) (λ s. found_from s cs)
+abbrev pub literal_from : LiteralState → List ℕ → Option (List ℕ × ℕ)
+literal_from r [] = None
+literal_from r (c ∷ cs) = read_on (read_byte r c) (λ s. literal_from s cs)
 
 -- a number of at most six hexadecimal digits
 pub record HasDigits (count value : ℕ) : Type 0 where
@@ -72,11 +72,11 @@ pub record HasDigits (count value : ℕ) : Type 0 where
   pub six : value < 16777216
   pub few : count ≤ 6
 
-abbrev pub Fits : Reading → Type 0
+abbrev pub Fits : LiteralState → Type 0
 Fits (Digits count value) = HasDigits count value
 Fits _ = Unit {0}
 
-abbrev pub Continues : Read → Type 0
+abbrev pub Continues : LiteralStep → Type 0
 Continues (Goes r) = Fits r
 Continues _ = Unit {0}
 
@@ -85,18 +85,18 @@ IsSmall None = Unit {0}
 IsSmall (Some d) = d < 16
 
 -- the same behind n bytes with this value
-abbrev pub behind : List ℕ → ℕ → Option (List ℕ × ℕ) → Option (List ℕ × ℕ)
-behind front n None = None
-behind front n (Some found) = Some (front ++ found.0, n + found.1)
+abbrev pub found_behind : List ℕ → ℕ → Option (List ℕ × ℕ) → Option (List ℕ × ℕ)
+found_behind front n None = None
+found_behind front n (Some found) = Some (front ++ found.0, n + found.1)
 
-abbrev pub text_of : Option (List ℕ × ℕ) → Option (Token × ℕ)
-text_of None = None
-text_of (Some found) = Some (token.Text found.0, found.1 + 1)
+abbrev pub literal_token : Option (List ℕ × ℕ) → Option (Token × ℕ)
+literal_token None = None
+literal_token (Some found) = Some (token.Text found.0, found.1 + 1)
 
 -- the literal whose opening quote stands before this text, and its length with that quote
-abbrev pub text_found : List ℕ → Option (Token × ℕ)
-text_found text = text_of (found_from Plain text)
+abbrev pub literal_found : List ℕ → Option (Token × ℕ)
+literal_found text = literal_token (literal_from Plain text)
 
-abbrev pub IsWithin : Option (List ℕ × ℕ) → ℕ → Type 0
-IsWithin None n = Unit {0}
-IsWithin (Some found) n = found.1 ≤ n
+abbrev pub IsFoundWithin : Option (List ℕ × ℕ) → ℕ → Type 0
+IsFoundWithin None n = Unit {0}
+IsFoundWithin (Some found) n = found.1 ≤ n

@@ -1,12 +1,12 @@
 //! The tokens of a script's text.
 #![tactic(auto)]
 
-mod lexemes;
+mod keywords;
+mod lexing;
 mod literal;
+mod longest_token;
 mod reserved;
-mod scan;
 mod spelling;
-mod words;
 
-pub use lexemes::{Lexed, lex};
+pub use lexing::{Lexed, lex};
 pub use spelling::push_spaced;

@@ -1,6 +1,7 @@
 // The literal at the front of a text.
 ghost use Rattle.std.specs.Prelude.{◌≡◌, ◌<◌, ◌≤◌, ◌+◌, ◌*◌, ◌++◌, ◌∷◌, [], length, encode_utf8, IfOk};
 ghost use Rattle.std.specs.Str.{IsUtf8};
+ghost use Rattle.cd_elem.specs.Base16 as base16;
 ghost use Rattle.cd_lex.specs.Quotes as quotes;
 ghost use Rattle.cd_grammar.specs.Literals as spec;
 
@@ -9,7 +10,7 @@ use std::alloc::Global;
 
 /// Where in a literal the next byte stands: behind how many digits of a number, and its value so far.
 #[derive(Clone, Copy)]
-enum Reading {
+enum LiteralState {
     Plain,
     Escape,
     Unicode,
@@ -18,16 +19,16 @@ enum Reading {
 
 /// What a byte makes of it. Behind a byte or a character of the value the next one is plain.
 #[derive(Clone, Copy)]
-enum Read {
+enum LiteralStep {
     Closes,
     Fails,
-    Goes(Reading),
+    Goes(LiteralState),
     Byte(u8),
     Char(char),
 }
 
 fn hex_value(byte: u8) -> Option<u8>
-    ensures value { result ≡ spec.hex_value byte }
+    ensures value { result ≡ base16.hex_value byte }
     ensures small { quotes.IsSmall result }
 {
     if byte.is_ascii_digit() {
@@ -59,59 +60,59 @@ fn short_escape(byte: u8) -> Option<u8>
     }
 }
 
-fn read_plain(byte: u8) -> Read
+fn read_plain(byte: u8) -> LiteralStep
     ensures { result ≡ quotes.read_plain byte }
 {
     if byte == b'"' {
-        Read::Closes
+        LiteralStep::Closes
     } else if byte == b'\\' {
-        Read::Goes(Reading::Escape)
+        LiteralStep::Goes(LiteralState::Escape)
     } else if byte == b'\n' {
-        Read::Fails
+        LiteralStep::Fails
     } else {
-        Read::Byte(byte)
+        LiteralStep::Byte(byte)
     }
 }
 
-fn read_escape(byte: u8) -> Read
+fn read_escape(byte: u8) -> LiteralStep
     ensures { result ≡ quotes.read_escape byte }
 {
     match short_escape(byte) {
-        Some(meant) => Read::Byte(meant),
+        Some(meant) => LiteralStep::Byte(meant),
         None => {
             if byte == b'u' {
-                Read::Goes(Reading::Unicode)
+                LiteralStep::Goes(LiteralState::Unicode)
             } else {
-                Read::Fails
+                LiteralStep::Fails
             }
         }
     }
 }
 
-fn read_unicode(byte: u8) -> Read
+fn read_unicode(byte: u8) -> LiteralStep
     ensures { result ≡ quotes.read_unicode byte }
 {
     if byte == b'{' {
-        Read::Goes(Reading::Digits(0, 0))
+        LiteralStep::Goes(LiteralState::Digits(0, 0))
     } else {
-        Read::Fails
+        LiteralStep::Fails
     }
 }
 
 /// The character of so many digits.
-fn scalar_of(count: u32, value: u32) -> Read
+fn scalar_of(count: u32, value: u32) -> LiteralStep
     ensures { result ≡ quotes.scalar_of count value }
 {
     if count == 0 {
-        return Read::Fails;
+        return LiteralStep::Fails;
     }
     match char::from_u32(value) {
-        Some(scalar) => Read::Char(scalar),
-        None => Read::Fails,
+        Some(scalar) => LiteralStep::Char(scalar),
+        None => LiteralStep::Fails,
     }
 }
 
-fn read_digit(count: u32, value: u32, byte: u8) -> Read
+fn read_digit(count: u32, value: u32, byte: u8) -> LiteralStep
     requires { quotes.HasDigits count value }
     ensures value { result ≡ quotes.read_digit count value byte }
     ensures fits { quotes.Continues result }
@@ -120,24 +121,27 @@ fn read_digit(count: u32, value: u32, byte: u8) -> Read
         return scalar_of(count, value);
     }
     if count >= 6 {
-        return Read::Fails;
+        return LiteralStep::Fails;
     }
     match hex_value(byte) {
-        None => Read::Fails,
-        Some(digit) => Read::Goes(Reading::Digits(count + 1, value * 16 + u32::from(digit))),
+        None => LiteralStep::Fails,
+        Some(digit) => LiteralStep::Goes(LiteralState::Digits(
+            count + 1,
+            value * 16 + u32::from(digit),
+        )),
     }
 }
 
-fn read_next(reading: Reading, byte: u8) -> Read
+fn read_byte(reading: LiteralState, byte: u8) -> LiteralStep
     requires { quotes.Fits reading }
-    ensures value { result ≡ quotes.read reading byte }
+    ensures value { result ≡ quotes.read_byte reading byte }
     ensures fits { quotes.Continues result }
 {
     match reading {
-        Reading::Plain => read_plain(byte),
-        Reading::Escape => read_escape(byte),
-        Reading::Unicode => read_unicode(byte),
-        Reading::Digits(count, value) => read_digit(count, value, byte),
+        LiteralState::Plain => read_plain(byte),
+        LiteralState::Escape => read_escape(byte),
+        LiteralState::Unicode => read_unicode(byte),
+        LiteralState::Digits(count, value) => read_digit(count, value, byte),
     }
 }
 
@@ -169,27 +173,27 @@ fn with_char(bytes: ByteList, scalar: char) -> Result<ByteList, NoMemory>
 }
 
 /// The value of the literal whose opening quote stands before this text, and its bytes behind that quote.
-fn quoted(alloc: Global, text: &[u8]) -> Result<Option<(ByteList, usize)>, NoMemory>
-    ensures value { IfOk result (λ found. found ≡ quotes.found_from quotes.plain text.now) }
-    ensures within { IfOk result (λ found. quotes.IsWithin found (length text.now)) }
+fn read_quoted(alloc: Global, text: &[u8]) -> Result<Option<(ByteList, usize)>, NoMemory>
+    ensures value { IfOk result (λ found. found ≡ quotes.literal_from quotes.plain text.now) }
+    ensures within { IfOk result (λ found. quotes.IsFoundWithin found (length text.now)) }
 {
     let mut bytes: ByteList = Items::new(alloc);
-    let mut reading = Reading::Plain;
+    let mut reading = LiteralState::Plain;
     for (place, byte) in text.iter().enumerate() {
-        match read_next(reading, *byte) {
-            Read::Closes => return Ok(Some((bytes, place + 1))),
-            Read::Fails => {
+        match read_byte(reading, *byte) {
+            LiteralStep::Closes => return Ok(Some((bytes, place + 1))),
+            LiteralStep::Fails => {
                 drop(bytes);
                 return Ok(None);
             }
-            Read::Goes(next) => reading = next,
-            Read::Byte(meant) => {
+            LiteralStep::Goes(next) => reading = next,
+            LiteralStep::Byte(meant) => {
                 bytes = with_byte(bytes, meant)?;
-                reading = Reading::Plain;
+                reading = LiteralState::Plain;
             }
-            Read::Char(scalar) => {
+            LiteralStep::Char(scalar) => {
                 bytes = with_char(bytes, scalar)?;
-                reading = Reading::Plain;
+                reading = LiteralState::Plain;
             }
         }
     }
@@ -198,11 +202,11 @@ fn quoted(alloc: Global, text: &[u8]) -> Result<Option<(ByteList, usize)>, NoMem
 }
 
 /// The literal whose opening quote stands before this text, and its length.
-pub fn literal(alloc: Global, text: &[u8]) -> Result<Option<(Token, usize)>, NoMemory>
+pub fn read_literal(alloc: Global, text: &[u8]) -> Result<Option<(Token, usize)>, NoMemory>
     requires { IsUtf8 text.now }
-    ensures { IfOk result (λ found. found ≡ quotes.text_found text.now) }
+    ensures { IfOk result (λ found. found ≡ quotes.literal_found text.now) }
 {
-    match quoted(alloc, text)? {
+    match read_quoted(alloc, text)? {
         None => Ok(None),
         Some((bytes, size)) => match String::from_utf8(bytes.into_vec()) {
             Ok(text) => Ok(Some((Token::Text(Literal::from(text)), size + 1))),

@@ -1,6 +1,6 @@
 // The reserved words.
 ghost use Rattle.std.specs.Prelude.{◌≡◌};
-ghost use Rattle.cd_lex.specs.Table.{entries};
+ghost use Rattle.cd_lex.specs.ReservedWords.{entries};
 ghost use Rattle.cd_grammar.specs.Reserved as spec;
 
 use cd_elem::{
@@ -105,8 +105,8 @@ static WORDS: [(&str, Keyword); 94] = [
     ("reverse", Keyword::Reverse),
 ];
 
-fn look(name: &[u8], words: &[(&str, Keyword)]) -> Option<Keyword>
-    ensures { result ≡ spec.look name.now (entries words.now) }
+fn look_up(name: &[u8], words: &[(&str, Keyword)]) -> Option<Keyword>
+    ensures { result ≡ spec.look_up name.now (entries words.now) }
 {
     for (word, keyword) in words {
         if name == word.as_bytes() {
@@ -120,5 +120,5 @@ fn look(name: &[u8], words: &[(&str, Keyword)]) -> Option<Keyword>
 pub fn reserved(name: &[u8]) -> Option<Keyword>
     ensures { result ≡ spec.reserved name.now }
 {
-    look(name, &WORDS)
+    look_up(name, &WORDS)
 }

@@ -5,7 +5,7 @@ ghost use Rattle.std.specs.List.{flat_map};
 ghost use Rattle.cd_grammar.specs.CanonicalText as layout;
 ghost use Rattle.cd_grammar.specs.Spelling as spec;
 
-use crate::words::spelled_word;
+use crate::keywords::spelled_word;
 use cd_elem::{Join, Keyword, NoMemory, Sign, Token};
 
 fn spelled_join(join: Join) -> &'static str
@@ -104,8 +104,8 @@ fn push_token(text: &mut String, token: &Token) -> Result<(), NoMemory>
 }
 
 /// No blank stands before these.
-fn is_closing(token: &Token) -> bool
-    ensures { result ≡ layout.is_closing token.now }
+fn takes_no_blank_before(token: &Token) -> bool
+    ensures { result ≡ layout.takes_no_blank_before token.now }
 {
     matches!(
         token,
@@ -114,8 +114,8 @@ fn is_closing(token: &Token) -> bool
 }
 
 /// Nor behind these.
-fn is_opening(token: &Token) -> bool
-    ensures { result ≡ layout.is_opening token.now }
+fn takes_no_blank_behind(token: &Token) -> bool
+    ensures { result ≡ layout.takes_no_blank_behind token.now }
 {
     matches!(token, Token::Sign(Sign::OpenParen | Sign::OpenSquare))
 }
@@ -133,10 +133,13 @@ fn is_paren(token: &Token) -> bool
     matches!(token, Token::Sign(Sign::OpenParen))
 }
 
-fn space(before: &Token, behind: &Token) -> &'static str
-    ensures { result.now ≡ layout.space before.now behind.now }
+fn blank_between(before: &Token, behind: &Token) -> &'static str
+    ensures { result.now ≡ layout.blank_between before.now behind.now }
 {
-    if is_opening(before) || is_closing(behind) || (is_call(before) && is_paren(behind)) {
+    if takes_no_blank_behind(before)
+        || takes_no_blank_before(behind)
+        || (is_call(before) && is_paren(behind))
+    {
         ""
     } else {
         " "
@@ -148,7 +151,7 @@ fn push_behind(text: &mut String, first: &Token, rest: &[Token]) -> Result<(), N
 {
     let mut before = first;
     for token in rest {
-        text.push_str(space(before, token))?;
+        text.push_str(blank_between(before, token))?;
         push_token(text, token)?;
         before = token;
     }

@@ -4,7 +4,7 @@ use Rattle.std.proofs.lemmas.Bool.{cases_lt, le-leb, lt-leb}
 use Rattle.std.proofs.lemmas.List.{append-nil, length-append, take_all, length-take, take-take, take-append-le}
 use Rattle.cd_meaning.specs.Stream.{Item, Elem, Value, Ended, Done, Act, Do, Effect, Open, Put, Close, Halts, More, Reading}
 use Rattle.cd_meaning.specs.Run.{Stamp, start, Run, Then, Ends, Component, outs, end_of, outs_at, effects, ending, acts_at}
-use Rattle.cd_meaning.specs.Words.{passes, unit_of, Mark, AtEnd, MayGoOn, Broken, TooLong, Told, Seen}
+use Rattle.cd_meaning.specs.RunShapes.{passes, unit_of, Mark, AtEnd, MayGoOn, Broken, TooLong, Told, Seen}
 use Rattle.cd_meaning.specs.ElementWords.{taken}
 use Rattle.cd_meaning.specs.Sources.{source_file, file_end, puts, stdout}
 use Rattle.cd_meaning.specs.Fusion.{fuse, fuse_at, fed}
@@ -13,9 +13,9 @@ use Rattle.cd_meaning.specs.Pipes.{nodes}
 use Rattle.cd_meaning.specs.Scripts.{goes_on, value_puts, script_run, script_places, statement_places, standard_output, whole_files}
 use Rattle.cd_meaning.specs.TakeForm.{take_script, close_of, ending_of, front_effects, front_ending}
 use Rattle.cd_meaning.specs.Scan.{scan}
-use Rattle.cd_meaning.proofs.Known.{fuse_assoc}
-use Rattle.cd_meaning.proofs.Through.{through, fuse_scan}
-use Rattle.cd_meaning.proofs.WordRuns.{each_scan, each_is_scan, each_is_run, first_scan, first_is_scan, first_is_run, nat_le_suc}
+use Rattle.cd_meaning.proofs.Weaves.Laws.{fuse_assoc}
+use Rattle.cd_meaning.proofs.Weaves.Through.{through, fuse_scan}
+use Rattle.cd_meaning.proofs.Runs.Shapes.{each_scan, each_is_scan, each_is_run, first_scan, first_is_scan, first_is_run, nat_le_suc}
 
 -- any run into takeE, and any run into stdout
 pub fuse_taken : (s : Stamp) (n : ℕ) (r : Run) → fuse_at s r (fed r (taken n)) ≡ through (first_scan passes unit_of) s (n, []) r

@@ -3,7 +3,7 @@ use Rattle.std.specs.Prelude.{ℕ, suc, ◌+◌, ◌-◌, ◌*◌, ◌/◌, ◌%
 use Rattle.cd_elem.specs.Base16.{hex_digits, hex_value}
 use Rattle.cd_meaning.specs.Stream.{Item, Value, Stopped, bad_hex, bad_base64, Stop, End, Ended, Halted, Halts}
 use Rattle.cd_meaning.specs.Run.{stamp, Run, Ends, Component, acts_at, past}
-use Rattle.cd_meaning.specs.Words.{each_to_end, number, elements_out, as_count}
+use Rattle.cd_meaning.specs.RunShapes.{each_to_end, number, elements_out, as_count}
 
 -- A whole group's bytes at its last character, behind which n characters stand, and what comes behind them; or its fault.
 abbrev pub group_at : ℕ → Stopped → Option (List ℕ) → Run → Run

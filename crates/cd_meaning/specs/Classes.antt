@@ -7,7 +7,7 @@ use Rattle.cd_elem.specs.declared.word.PieceTest.{PieceTest}
 use Rattle.cd_elem.specs.declared.word.TestName.{TestName}
 use Rattle.cd_elem.specs.declared.word.PieceMap.{PieceMap}
 use Rattle.cd_meaning.specs.Stream.{Item, Elem, Piece, Sort}
-use Rattle.cd_meaning.specs.Words.{number, elements}
+use Rattle.cd_meaning.specs.RunShapes.{number, elements}
 use Rattle.cd_meaning.specs.Sorts.{literal_at}
 
 -- ---- classes: by the number of an element

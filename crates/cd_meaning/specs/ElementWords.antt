@@ -2,7 +2,7 @@
 use Rattle.std.specs.Prelude.{ℕ, suc, ◌+◌, Bool, true, false, if◌then◌else◌, List, [], ◌∷◌, length, replicate}
 use Rattle.cd_meaning.specs.Stream.{Item, Value, absent, present, End, Done, Act, Out}
 use Rattle.cd_meaning.specs.Run.{stamp, Run, Ends, Component, past}
-use Rattle.cd_meaning.specs.Words.{each_to_end, passes, drops, first, unit_of, while, whole, number, as_count}
+use Rattle.cd_meaning.specs.RunShapes.{each_to_end, passes, drops, first, unit_of, while, whole, number, as_count}
 
 -- ---- words that give values
 

@@ -2,7 +2,7 @@
 use Rattle.std.specs.Prelude.{◌≡◌, ℕ, ◌==◌, Bool, true, false, List, ◌++◌, ◌⊎◌}
 use Rattle.cd_meaning.specs.Stream.{Item, More, Reading, End, Ending, Halts}
 use Rattle.cd_meaning.specs.Run.{Run, Then, Ends, Component}
-use Rattle.cd_meaning.specs.Words.{MayGoOn, Told, Seen}
+use Rattle.cd_meaning.specs.RunShapes.{MayGoOn, Told, Seen}
 use Rattle.cd_meaning.specs.Laws.{Rising}
 
 -- a run that ends so waits for one of these sites

@@ -12,7 +12,7 @@ use Rattle.cd_elem.specs.declared.script.Pipe.TheFolds.{fold-Pipe, fold-roll-Pip
 use Rattle.cd_elem.specs.declared.script.Stmt.{Stmt}
 
 -- what is judged of a tree: whether it is lawful, and whether it is an invertible map
-pub record Judged : Type 0 where
+pub record Lawfulness : Type 0 where
   pub lawful : Bool
   pub map : Bool
 
@@ -31,21 +31,21 @@ is_map (Word.Elem w) = is_element_map w
 is_map (Word.Piece w) = is_piece_map w
 is_map _ = false
 
-abbrev pub all_lawful : List Judged → Bool
+abbrev pub all_lawful : List Lawfulness → Bool
 all_lawful [] = true
 all_lawful (a ∷ more) = a.lawful && all_lawful more
 
-abbrev pub all_maps : List Judged → Bool
+abbrev pub all_maps : List Lawfulness → Bool
 all_maps [] = true
 all_maps (a ∷ more) = a.map && all_maps more
 
-abbrev pub maps_but_last : List Judged → Bool
+abbrev pub maps_but_last : List Lawfulness → Bool
 maps_but_last [] = true
 maps_but_last (a ∷ []) = true
 maps_but_last (a ∷ b ∷ more) = a.map && maps_but_last (b ∷ more)
 
 -- maps in a row by `|` are a map
-abbrev pub chain_judged : Join → List Judged → Judged
+abbrev pub chain_judged : Join → List Lawfulness → Lawfulness
 chain_judged Join.Plain parts = record { lawful = all_lawful parts; map = all_maps parts }
 chain_judged Join.Keep parts = record { lawful = all_lawful parts && maps_but_last parts; map = false }
 chain_judged Join.Return parts = record { lawful = all_lawful parts; map = false }
@@ -54,10 +54,10 @@ chain_judged Join.Up parts = record { lawful = all_lawful parts; map = false }
 chain_judged Join.Asked parts = record { lawful = all_lawful parts; map = false }
 
 -- a form of lawful parts
-abbrev pub form_judged : Bool → Judged
+abbrev pub form_judged : Bool → Lawfulness
 form_judged lawful = record { lawful = lawful; map = false }
 
-abbrev pub node_judged : Pipe-F Judged → Judged
+abbrev pub node_judged : Pipe-F Lawfulness → Lawfulness
 node_judged (Pipe-F.Word w) = record { lawful = true; map = is_map w }
 node_judged (Pipe-F.Chain join parts) = chain_judged join parts
 node_judged (Pipe-F.Sequence parts) = form_judged (all_lawful parts)
@@ -70,8 +70,8 @@ node_judged (Pipe-F.ZipSource a b literal) = form_judged (a.lawful && b.lawful)
 node_judged (Pipe-F.ZipSink a b) = form_judged (a.lawful && b.lawful)
 node_judged (Pipe-F.ZipConduit a b) = form_judged (a.lawful && b.lawful)
 
-abbrev pub judged : Pipe → Judged
-judged = fold-Pipe Judged node_judged
+abbrev pub judged : Pipe → Lawfulness
+judged = fold-Pipe Lawfulness node_judged
 
 abbrev pub IsLawfulTree : Pipe → Type 0
 IsLawfulTree p = IsTrue (judged p).lawful
@@ -92,7 +92,7 @@ IsLawfulScript (s ∷ more) = OfLawfulTree s × IsLawfulScript more
 -- ---- what is judged at words and chains
 
 pub word_judged : (w : Word) → judged (pipe.Word w) ≡ record { lawful = true; map = is_map w }
-word_judged w = ap judged (sym (pipe.rolls-Word w)) ∙ fold-roll-Pipe Judged node_judged _
+word_judged w = ap judged (sym (pipe.rolls-Word w)) ∙ fold-roll-Pipe Lawfulness node_judged _
 
 pub chain_is_judged : (join : Join) (parts : List Pipe) → judged (pipe.Chain join parts) ≡ chain_judged join (map judged parts)
-chain_is_judged join parts = ap judged (sym (pipe.rolls-Chain join parts)) ∙ fold-roll-Pipe Judged node_judged _
+chain_is_judged join parts = ap judged (sym (pipe.rolls-Chain join parts)) ∙ fold-roll-Pipe Lawfulness node_judged _

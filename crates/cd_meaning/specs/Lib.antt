@@ -28,5 +28,5 @@ pub mod Twins
 pub mod ValueText
 pub mod Values
 pub mod WordMeanings
-pub mod Words
+pub mod RunShapes
 pub mod Zips

@@ -2,7 +2,7 @@
 use Rattle.std.specs.Prelude.{ℕ, suc, ◌+◌, List, [], ◌∷◌, ◌++◌, length, Some, None}
 use Rattle.cd_meaning.specs.Stream.{Sort, Flow}
 use Rattle.cd_meaning.specs.Run.{Component}
-use Rattle.cd_meaning.specs.Words.{Seen}
+use Rattle.cd_meaning.specs.RunShapes.{Seen}
 use Rattle.cd_meaning.specs.Places.{Place, Marks}
 use Rattle.cd_meaning.specs.Sources.{marked}
 use Rattle.cd_meaning.specs.Sorts.{sort_of, join, list_of, literal_at}

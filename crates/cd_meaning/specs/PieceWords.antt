@@ -2,7 +2,7 @@
 use Rattle.std.specs.Prelude.{suc, [], ◌∷◌, length}
 use Rattle.cd_meaning.specs.Stream.{Item, Value, Out}
 use Rattle.cd_meaning.specs.Run.{stamp, Then, Component, past}
-use Rattle.cd_meaning.specs.Words.{each}
+use Rattle.cd_meaning.specs.RunShapes.{each}
 
 -- y before each value but the first
 abbrev pub interspersed : Item → Component

@@ -1,7 +1,7 @@
 -- What a script does at each of its sites, and what that says of where effects go and of what is seen.
 use Rattle.std.specs.Prelude.{ℕ, zero, suc, ◌==◌, nat_le, if◌then◌else◌, List, [], ◌∷◌, length, take}
 use Rattle.cd_meaning.specs.Stream.{Effect, Open, Put, Close}
-use Rattle.cd_meaning.specs.Words.{AtEnd, TooLong, Told, Seen}
+use Rattle.cd_meaning.specs.RunShapes.{AtEnd, TooLong, Told, Seen}
 
 -- A site reads a file or standard input, writes a file or standard output, or marks a file, which stands for a while.
 pub data Place : Type 0 where

@@ -3,7 +3,7 @@ use Rattle.std.specs.Prelude.{ℕ, suc, ◌+◌, List, [], ◌∷◌, ◌++◌, 
 use Rattle.cd_elem.specs.declared.script.Stmt.{Stmt}
 use Rattle.cd_meaning.specs.Stream.{Flow, Value, Ended, Done, Halts, Act, Out, Do, Open, Put, Close}
 use Rattle.cd_meaning.specs.Run.{Stamp, start, Run, Then, Ends, Component, acts_at, effects}
-use Rattle.cd_meaning.specs.Words.{Seen}
+use Rattle.cd_meaning.specs.RunShapes.{Seen}
 use Rattle.cd_meaning.specs.ValueText.{value_text}
 use Rattle.cd_meaning.specs.Places.{Place, Marks, whole, sent_to}
 use Rattle.cd_meaning.specs.Seals.{fed_run, left_by}
@@ -23,14 +23,14 @@ goes_on (Ends s (Done v)) k = k s v
 goes_on (Ends s (Halts h)) k = Ends start (Halts h)
 
 -- What statements leave behind: the number of the next site, the sealed sources with what they give, and the sites of the held keys. A name is its bytes.
-pub record State : Type 0 where
+pub record ScriptState : Type 0 where
   pub site : ℕ
   pub sealed : List ℕ → Run
   pub flow : List ℕ → Flow
   pub key : List ℕ → ℕ
 
 -- behind the sites of this part
-abbrev pub passed_sites : State → Meaning → State
+abbrev pub passed_sites : ScriptState → Meaning → ScriptState
 passed_sites st m = record { site = st.site + length m.places; sealed = st.sealed; flow = st.flow; key = st.key }
 
 -- another answer at this name
@@ -38,7 +38,7 @@ abbrev pub with_name : {A : Type 0} → (List ℕ → A) → List ℕ → A → 
 with_name f name a other = if bytes_eq other name then a else f other
 
 -- the sealed source of this name is this run
-abbrev pub with_sealed : State → List ℕ → Run → State
+abbrev pub with_sealed : ScriptState → List ℕ → Run → ScriptState
 with_sealed st name r = record { site = st.site; sealed = with_name st.sealed name r; flow = st.flow; key = st.key }
 
 -- what a run does and prints, and then what comes behind it
@@ -47,7 +47,7 @@ ran r next = goes_on r (λ t v. acts_at start (value_puts v) next)
 
 -- The effects of a statement in a state, and the run of what comes behind it.
 abbrev pub Statement : Type 0
-Statement = Seen → State → (State → Run) → Run
+Statement = Seen → ScriptState → (ScriptState → Run) → Run
 
 abbrev pub run_statement : Meaning → Statement
 run_statement m seen st next = ran (m.run None st.site seen [] Ended) (next (passed_sites st m))
@@ -61,7 +61,7 @@ let_statement name m seen st next = next (record {
 })
 
 -- a sink for the sealed source of this name
-abbrev pub sink_of : List ℕ → Meaning → Seen → State → Component
+abbrev pub sink_of : List ℕ → Meaning → Seen → ScriptState → Component
 sink_of name m seen st = m.run (st.flow name) st.site seen
 
 abbrev pub feed_statement : List ℕ → Meaning → Statement
@@ -88,10 +88,10 @@ statement_meaning (Stmt.Hold name file) = hold_statement name
 statement_meaning (Stmt.Release name) = release_statement name
 
 -- before the first statement
-abbrev pub first_state : State
+abbrev pub first_state : ScriptState
 first_state = record { site = 1; sealed = λ name. Ends start (Done Value.Unit); flow = λ name. None; key = λ name. 0 }
 
-abbrev pub statements_from : List Statement → Seen → State → Run
+abbrev pub statements_from : List Statement → Seen → ScriptState → Run
 statements_from [] seen st = Ends start (Done Value.Unit)
 statements_from (s ∷ more) seen st = s seen st (statements_from more seen)
 

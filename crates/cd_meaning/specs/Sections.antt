@@ -2,7 +2,7 @@
 use Rattle.std.specs.Prelude.{ℕ, suc, ◌+◌, ◌==◌, max, not, if◌then◌else◌, length, drop}
 use Rattle.cd_meaning.specs.Stream.{Value, Done}
 use Rattle.cd_meaning.specs.Run.{Stamp, stamp, Ends, Component, restamp, follow, past}
-use Rattle.cd_meaning.specs.Words.{each, passes, front, number}
+use Rattle.cd_meaning.specs.RunShapes.{each, passes, front, number}
 use Rattle.cd_meaning.specs.ElementWords.{taken}
 use Rattle.cd_meaning.specs.Fusion.{fuse_drained, second_value}
 

@@ -1,7 +1,7 @@
 -- What a stream's sort decides: results, literals, and the sorts that come behind a word.
 use Rattle.std.specs.Prelude.{ℕ, zero, suc, nat_lt, if◌then◌else◌, List, [], ◌∷◌, map, Some, None}
 use Rattle.cd_meaning.specs.Stream.{Item, Elem, Piece, Sort, Flow, Value, Values, NoValues, Another}
-use Rattle.cd_meaning.specs.Words.{number, elements}
+use Rattle.cd_meaning.specs.RunShapes.{number, elements}
 use Rattle.cd_meaning.specs.Text.{first_bits, more_bits}
 
 -- where nothing comes, a list of pieces counts as one of blocks

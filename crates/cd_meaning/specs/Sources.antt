@@ -2,7 +2,7 @@
 use Rattle.std.specs.Prelude.{ℕ, zero, suc, ◌-◌, List, [], ◌∷◌, length, map, decimal}
 use Rattle.cd_meaning.specs.Stream.{Item, Elem, Piece, Value, More, Stop, Reading, ReadBad, Long, End, Ended, Halted, Done, Halts, Act, Do, Open, Put, Close}
 use Rattle.cd_meaning.specs.Run.{stamp, start, Run, Then, Ends, Component, outs_at, past, follow}
-use Rattle.cd_meaning.specs.Words.{each, each_to_end, Mark, AtEnd, MayGoOn, Broken, TooLong, Told}
+use Rattle.cd_meaning.specs.RunShapes.{each, each_to_end, Mark, AtEnd, MayGoOn, Broken, TooLong, Told}
 
 -- behind the bytes of the file at site s
 abbrev pub file_end : ℕ → Mark → Run

@@ -2,7 +2,7 @@
 use Rattle.std.specs.Prelude.{ℕ, suc, ◌+◌, ◌==◌, Bool, true, false, if◌then◌else◌, List, [], ◌∷◌, ◌++◌, length}
 use Rattle.cd_meaning.specs.Stream.{Item, Piece, Value, End, Ended, Halted, Out}
 use Rattle.cd_meaning.specs.Run.{stamp, Run, Then, Component, outs_at, past}
-use Rattle.cd_meaning.specs.Words.{each_to_end, number, elements, piece, elements_out}
+use Rattle.cd_meaning.specs.RunShapes.{each_to_end, number, elements, piece, elements_out}
 
 -- what is made of elements that are too few for a whole piece
 abbrev pub no_piece : List Item → List Item

@@ -9,7 +9,7 @@ use Rattle.cd_elem.specs.declared.script.Pipe.{Pipe}
 use Rattle.cd_elem.specs.declared.script.Pipe.TheVariants as pipe
 use Rattle.cd_elem.specs.declared.script.Stmt.{Stmt}
 use Rattle.cd_meaning.specs.Stream.{Value, More, Stop, Reading, ReadBad, Long, Ending, Done, Halts, Effect, Open, Put, Close}
-use Rattle.cd_meaning.specs.Words.{Mark, AtEnd, MayGoOn, Broken, TooLong}
+use Rattle.cd_meaning.specs.RunShapes.{Mark, AtEnd, MayGoOn, Broken, TooLong}
 
 abbrev pub take_words : List ℕ → ℕ → List Pipe
 take_words name n =

@@ -2,7 +2,7 @@
 use Rattle.std.specs.Prelude.{ℕ, suc, ◌+◌, ◌-◌, ◌*◌, ◌==◌, nat_lt, nat_le, Bool, ◌&&◌, if◌then◌else◌, List, [], ◌∷◌, Option, Some, None, encode_utf8}
 use Rattle.cd_meaning.specs.Stream.{Item, Elem, Value, bad_text, Stop, End, Ended, Halted, Halts, Out}
 use Rattle.cd_meaning.specs.Run.{stamp, Run, Then, Ends, Component, past}
-use Rattle.cd_meaning.specs.Words.{each_to_end, number, elements_out, as_count}
+use Rattle.cd_meaning.specs.RunShapes.{each_to_end, number, elements_out, as_count}
 
 -- the bytes from low to high
 pub record Range : Type 0 where

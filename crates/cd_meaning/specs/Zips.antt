@@ -2,7 +2,7 @@
 use Rattle.std.specs.Prelude.{ℕ, min, max, nat_le, if◌then◌else◌, List, [], ◌++◌, length}
 use Rattle.cd_meaning.specs.Stream.{Item, Piece, Value, Ended, Ending, Done, Halts, Act, Out, Do}
 use Rattle.cd_meaning.specs.Run.{Stamp, stamp, start, Run, Then, Ends, Component}
-use Rattle.cd_meaning.specs.Words.{elements}
+use Rattle.cd_meaning.specs.RunShapes.{elements}
 use Rattle.cd_meaning.specs.ElementWords.{passed}
 use Rattle.cd_meaning.specs.Fusion.{both}
 

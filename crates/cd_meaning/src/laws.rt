@@ -18,7 +18,7 @@ ghost use Rattle.cd_meaning.specs.Scripts.{script_run};
 ghost use Rattle.cd_meaning.specs.Stream.{End, Flow, Halt, Halted, Item};
 ghost use Rattle.cd_meaning.specs.Twins.{twin};
 ghost use Rattle.cd_meaning.specs.WordMeanings.{element_word, piece_word, split_word, word_meaning};
-ghost use Rattle.cd_meaning.specs.Words.{Seen};
+ghost use Rattle.cd_meaning.specs.RunShapes.{Seen};
 
 /// The prefix law: what was known of a front is never taken back.
 ///

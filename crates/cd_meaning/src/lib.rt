@@ -6,7 +6,7 @@ mod laws;
 ghost use Rattle.std.specs.Prelude.{◌≡◌, ◌≤◌, ℕ, List, take};
 ghost use Rattle.cd_meaning.specs.Stream.{Value, Done};
 ghost use Rattle.cd_meaning.specs.Run.{effects, ending};
-ghost use Rattle.cd_meaning.specs.Words.{Seen};
+ghost use Rattle.cd_meaning.specs.RunShapes.{Seen};
 ghost use Rattle.cd_meaning.specs.Scripts.{script_run, standard_output, whole_files};
 ghost use Rattle.cd_meaning.specs.TakeForm.{front_effects, front_ending, take_script};
 

@@ -5,14 +5,14 @@ use Rattle.std.proofs.lemmas.List.Sums.{fold-append}
 use Rattle.cd_elem.specs.declared.script.Stmt.{Stmt}
 use Rattle.cd_elem.specs.declared.token.Token.{Token}
 use Rattle.cd_grammar.specs.Grammar as g
-use Rattle.cd_parser.specs.declared.state.State.{State}
-use Rattle.cd_parser.specs.Machine.{next, run, start}
+use Rattle.cd_parser.specs.declared.state.ParserState.{ParserState}
+use Rattle.cd_parser.specs.Machine.{next, state_behind, start}
 use Rattle.cd_parser.proofs.Complete.{over_script, done}
-use Rattle.cd_parser.proofs.Finish.{finishes}
-use Rattle.cd_parser.proofs.Stands.{is_script}
+use Rattle.cd_parser.proofs.CanFinish.{finishes}
+use Rattle.cd_parser.proofs.Sound.{is_script}
 
 -- what the machine takes is the front of a script
-pub front : (ts : List Token) (s : State) → run ts ≡ Some s → g.IsFront ts
+pub front : (ts : List Token) (s : ParserState) → state_behind ts ≡ Some s → g.IsFront ts
 front ts s e =
     let f = finishes s in
     record {
@@ -22,8 +22,8 @@ front ts s e =
     }
 
 -- a script leads to its own tree
-pub only : (ts : List Token) (tree : List Stmt) → g.IsScript ts tree → run ts ≡ Some (done tree)
-only ts tree i = ap run (sym i.spelled) ∙ over_script i.derivation ∙ ap (λ r. Some (done r)) i.stands_for
+pub only : (ts : List Token) (tree : List Stmt) → g.IsScript ts tree → state_behind ts ≡ Some (done tree)
+only ts tree i = ap state_behind (sym i.spelled) ∙ over_script i.derivation ∙ ap (λ r. Some (done r)) i.stands_for
 
 stuck : (ts : List Token) → fold next None ts ≡ None
 stuck [] = refl
@@ -33,7 +33,7 @@ pub apart : {A : Type 0} {x : A} → None ≡ Some x → ⊥
 apart e = cc
 
 -- what the machine refuses is the front of no script
-pub no_front : (ts : List Token) → run ts ≡ None → g.IsFront ts → ⊥
+pub no_front : (ts : List Token) → state_behind ts ≡ None → g.IsFront ts → ⊥
 no_front ts e f =
     let a = only (ts ++ f.more) f.tree f.script in
     let b = fold-append next (Some start) ts f.more in

@@ -1,8 +1,8 @@
 pub mod Complete
-pub mod Finish
-pub mod Forms
+pub mod Extensions
+pub mod CanFinish
 pub mod Fronts
+pub mod OnlyChar
 pub mod Rows
-pub mod Single
-pub mod Stands
-pub mod Turning
+pub mod Sound
+pub mod StateForms

@@ -4,11 +4,11 @@ ghost use Rattle.cd_parser.specs.Machine as spec;
 
 use crate::heads::{let_go, with_last};
 use crate::state::{Block, Exit, Frame};
-use crate::words::number_of;
+use crate::word_trees::number_of;
 use cd_elem::{Boxed, NoMemory, Pipe, PipeList, Section, Sign, Zip};
 use std::alloc::Global;
 
-fn boxed(alloc: Global, pipe: Pipe) -> Result<Boxed<Pipe>, NoMemory>
+fn box_pipe(alloc: Global, pipe: Pipe) -> Result<Boxed<Pipe>, NoMemory>
     ensures { IfOk result (λ it. it ≡ pipe) }
 {
     match Boxed::new(alloc, pipe) {
@@ -17,15 +17,15 @@ fn boxed(alloc: Global, pipe: Pipe) -> Result<Boxed<Pipe>, NoMemory>
     }
 }
 
-pub fn both_boxed(
+pub fn box_both(
     alloc: Global,
     first: Pipe,
     second: Pipe,
 ) -> Result<(Boxed<Pipe>, Boxed<Pipe>), NoMemory>
     ensures { IfOk result (λ both. (both.0 ≡ first) × (both.1 ≡ second)) }
 {
-    match boxed(alloc, first) {
-        Ok(first) => match boxed(alloc, second) {
+    match box_pipe(alloc, first) {
+        Ok(first) => match box_pipe(alloc, second) {
             Ok(second) => Ok((first, second)),
             Err(NoMemory) => Err(let_go(first)),
         },
@@ -33,10 +33,10 @@ pub fn both_boxed(
     }
 }
 
-fn block_pipe(alloc: Global, block: Block, pipe: Pipe) -> Result<Pipe, NoMemory>
-    ensures { IfOk result (λ form. form ≡ spec.block_pipe block pipe) }
+fn close_block(alloc: Global, block: Block, pipe: Pipe) -> Result<Pipe, NoMemory>
+    ensures { IfOk result (λ form. form ≡ spec.close_block block pipe) }
 {
-    let body = match boxed(alloc, pipe) {
+    let body = match box_pipe(alloc, pipe) {
         Ok(body) => body,
         Err(NoMemory) => return Err(let_go(block)),
     };
@@ -48,8 +48,8 @@ fn block_pipe(alloc: Global, block: Block, pipe: Pipe) -> Result<Pipe, NoMemory>
     }
 }
 
-fn leaves_parens(pipe: Pipe, sign: Sign) -> Option<Exit>
-    ensures { result ≡ spec.left Frame.Parens pipe sign }
+fn leave_parens(pipe: Pipe, sign: Sign) -> Option<Exit>
+    ensures { result ≡ spec.leave_bracket Frame.Parens pipe sign }
 {
     match sign {
         Sign::CloseParen => Some(Exit::Closes(pipe)),
@@ -60,8 +60,8 @@ fn leaves_parens(pipe: Pipe, sign: Sign) -> Option<Exit>
     }
 }
 
-fn leaves_braces(pipes: PipeList, pipe: Pipe, sign: Sign) -> Result<Option<Exit>, NoMemory>
-    ensures { IfOk result (λ exit. exit ≡ spec.left (Frame.Braces pipes) pipe sign) }
+fn leave_braces(pipes: PipeList, pipe: Pipe, sign: Sign) -> Result<Option<Exit>, NoMemory>
+    ensures { IfOk result (λ exit. exit ≡ spec.leave_bracket (Frame.Braces pipes) pipe sign) }
 {
     match sign {
         Sign::Semicolon => {
@@ -79,17 +79,17 @@ fn leaves_braces(pipes: PipeList, pipe: Pipe, sign: Sign) -> Result<Option<Exit>
     }
 }
 
-fn leaves_block(
+fn leave_block(
     alloc: Global,
     block: Block,
     pipe: Pipe,
     sign: Sign,
 ) -> Result<Option<Exit>, NoMemory>
-    ensures { IfOk result (λ exit. exit ≡ spec.left (Frame.Block block) pipe sign) }
+    ensures { IfOk result (λ exit. exit ≡ spec.leave_bracket (Frame.Block block) pipe sign) }
 {
     match sign {
         Sign::CloseBrace => {
-            let form = block_pipe(alloc, block, pipe)?;
+            let form = close_block(alloc, block, pipe)?;
             Ok(Some(Exit::Closes(form)))
         }
         _ => {
@@ -99,12 +99,12 @@ fn leaves_block(
     }
 }
 
-fn leaves_tee(alloc: Global, pipe: Pipe, sign: Sign) -> Result<Option<Exit>, NoMemory>
-    ensures { IfOk result (λ exit. exit ≡ spec.left Frame.Tee pipe sign) }
+fn leave_tee(alloc: Global, pipe: Pipe, sign: Sign) -> Result<Option<Exit>, NoMemory>
+    ensures { IfOk result (λ exit. exit ≡ spec.leave_bracket Frame.Tee pipe sign) }
 {
     match sign {
         Sign::CloseParen => {
-            let body = boxed(alloc, pipe)?;
+            let body = box_pipe(alloc, pipe)?;
             Ok(Some(Exit::Closes(Pipe::Tee(body))))
         }
         _ => {
@@ -114,8 +114,8 @@ fn leaves_tee(alloc: Global, pipe: Pipe, sign: Sign) -> Result<Option<Exit>, NoM
     }
 }
 
-fn leaves_first(zip: Zip, pipe: Pipe, sign: Sign) -> Option<Exit>
-    ensures { result ≡ spec.left (Frame.ZipFirst zip) pipe sign }
+fn leave_first(zip: Zip, pipe: Pipe, sign: Sign) -> Option<Exit>
+    ensures { result ≡ spec.leave_bracket (Frame.ZipFirst zip) pipe sign }
 {
     match sign {
         Sign::Comma => Some(Exit::Stays(Frame::ZipSecond(zip, pipe))),
@@ -126,23 +126,23 @@ fn leaves_first(zip: Zip, pipe: Pipe, sign: Sign) -> Option<Exit>
     }
 }
 
-fn zip_left(
+fn leave_zip(
     alloc: Global,
     zip: Zip,
     first: Pipe,
     second: Pipe,
     sign: Sign,
 ) -> Result<Option<Exit>, NoMemory>
-    ensures { IfOk result (λ exit. exit ≡ spec.zip_left zip first second sign) }
+    ensures { IfOk result (λ exit. exit ≡ spec.leave_zip zip first second sign) }
 {
     match (zip, sign) {
         (Zip::Source, Sign::Comma) => Ok(Some(Exit::Asks(first, second))),
         (Zip::Sink, Sign::CloseParen) => {
-            let (first, second) = both_boxed(alloc, first, second)?;
+            let (first, second) = box_both(alloc, first, second)?;
             Ok(Some(Exit::Closes(Pipe::ZipSink(first, second))))
         }
         (Zip::Conduit, Sign::CloseParen) => {
-            let (first, second) = both_boxed(alloc, first, second)?;
+            let (first, second) = box_both(alloc, first, second)?;
             Ok(Some(Exit::Closes(Pipe::ZipConduit(first, second))))
         }
         _ => {
@@ -152,15 +152,20 @@ fn zip_left(
     }
 }
 
-pub fn left(alloc: Global, frame: Frame, pipe: Pipe, sign: Sign) -> Result<Option<Exit>, NoMemory>
-    ensures { IfOk result (λ exit. exit ≡ spec.left frame pipe sign) }
+pub fn leave_bracket(
+    alloc: Global,
+    frame: Frame,
+    pipe: Pipe,
+    sign: Sign,
+) -> Result<Option<Exit>, NoMemory>
+    ensures { IfOk result (λ exit. exit ≡ spec.leave_bracket frame pipe sign) }
 {
     match frame {
-        Frame::Parens => Ok(leaves_parens(pipe, sign)),
-        Frame::Braces(pipes) => leaves_braces(pipes, pipe, sign),
-        Frame::Block(block) => leaves_block(alloc, block, pipe, sign),
-        Frame::Tee => leaves_tee(alloc, pipe, sign),
-        Frame::ZipFirst(zip) => Ok(leaves_first(zip, pipe, sign)),
-        Frame::ZipSecond(zip, first) => zip_left(alloc, zip, first, pipe, sign),
+        Frame::Parens => Ok(leave_parens(pipe, sign)),
+        Frame::Braces(pipes) => leave_braces(pipes, pipe, sign),
+        Frame::Block(block) => leave_block(alloc, block, pipe, sign),
+        Frame::Tee => leave_tee(alloc, pipe, sign),
+        Frame::ZipFirst(zip) => Ok(leave_first(zip, pipe, sign)),
+        Frame::ZipSecond(zip, first) => leave_zip(alloc, zip, first, pipe, sign),
     }
 }

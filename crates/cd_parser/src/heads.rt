@@ -2,8 +2,8 @@
 ghost use Rattle.std.specs.Prelude.{◌≡◌, ◌∷◌, ◌++◌, [], IfOk, Option, Some};
 ghost use Rattle.cd_parser.specs.Machine as spec;
 
-use crate::state::{Block, Frame, Head, Turn};
-use crate::words::{
+use crate::state::{Block, Extension, Frame, Head};
+use crate::word_trees::{
     byte_of, classed_word, counted_word, file_word, list_word, literal_word, map_by_number,
     map_by_text, number_of, only_char, plain_class, plain_word, test_of_end, tested_word,
 };
@@ -31,90 +31,92 @@ pub fn with_last<T: Drop>(items: Items<T>, last: T) -> Result<Items<T>, NoMemory
     }
 }
 
-fn begun_by(word: Keyword) -> Option<Turn>
-    ensures { result ≡ spec.begun_by word }
+fn begin_by_word(word: Keyword) -> Option<Extension>
+    ensures { result ≡ spec.begin_by_word word }
 {
     match word {
-        Keyword::Plain(word) => Some(Turn::Ends(plain_word(word))),
-        Keyword::Counted(word) => Some(Turn::Goes(Head::Counted(word))),
-        Keyword::Classed(word) => Some(Turn::Goes(Head::Classed(word))),
-        Keyword::Tested(word) => Some(Turn::Goes(Head::Tested(word))),
-        Keyword::Literal(word) => Some(Turn::Goes(Head::Literal(word))),
-        Keyword::File(word) => Some(Turn::Goes(Head::File(word))),
-        Keyword::List(word) => Some(Turn::Goes(Head::List(word))),
-        Keyword::MapE => Some(Turn::Goes(Head::MapE)),
-        Keyword::Map => Some(Turn::Goes(Head::Map)),
-        Keyword::Split => Some(Turn::Goes(Head::Split)),
-        Keyword::Replicate => Some(Turn::Goes(Head::Replicate)),
-        Keyword::Range => Some(Turn::Goes(Head::Range)),
-        Keyword::Section(section) => Some(Turn::Goes(Head::Section(section))),
-        Keyword::LineE => Some(Turn::Goes(Head::Block(Block::LineE))),
-        Keyword::Mark => Some(Turn::Goes(Head::Mark)),
-        Keyword::Tee => Some(Turn::Goes(Head::Tee)),
-        Keyword::Zip(zip) => Some(Turn::Goes(Head::Zip(zip))),
+        Keyword::Plain(word) => Some(Extension::Ends(plain_word(word))),
+        Keyword::Counted(word) => Some(Extension::Goes(Head::Counted(word))),
+        Keyword::Classed(word) => Some(Extension::Goes(Head::Classed(word))),
+        Keyword::Tested(word) => Some(Extension::Goes(Head::Tested(word))),
+        Keyword::Literal(word) => Some(Extension::Goes(Head::Literal(word))),
+        Keyword::File(word) => Some(Extension::Goes(Head::File(word))),
+        Keyword::List(word) => Some(Extension::Goes(Head::List(word))),
+        Keyword::MapE => Some(Extension::Goes(Head::MapE)),
+        Keyword::Map => Some(Extension::Goes(Head::Map)),
+        Keyword::Split => Some(Extension::Goes(Head::Split)),
+        Keyword::Replicate => Some(Extension::Goes(Head::Replicate)),
+        Keyword::Range => Some(Extension::Goes(Head::Range)),
+        Keyword::Section(section) => Some(Extension::Goes(Head::Section(section))),
+        Keyword::LineE => Some(Extension::Goes(Head::Block(Block::LineE))),
+        Keyword::Mark => Some(Extension::Goes(Head::Mark)),
+        Keyword::Tee => Some(Extension::Goes(Head::Tee)),
+        Keyword::Zip(zip) => Some(Extension::Goes(Head::Zip(zip))),
         _ => None,
     }
 }
 
-fn begun_at(alloc: Global, sign: Sign) -> Option<Turn>
-    ensures { result ≡ spec.begun_at sign }
+fn begin_by_sign(alloc: Global, sign: Sign) -> Option<Extension>
+    ensures { result ≡ spec.begin_by_sign sign }
 {
     match sign {
-        Sign::OpenParen => Some(Turn::Opens(Frame::Parens)),
-        Sign::OpenBrace => Some(Turn::Opens(Frame::Braces(Items::new(alloc)))),
+        Sign::OpenParen => Some(Extension::Opens(Frame::Parens)),
+        Sign::OpenBrace => Some(Extension::Opens(Frame::Braces(Items::new(alloc)))),
         _ => None,
     }
 }
 
 /// What a token makes of the place where a part is to begin.
-pub fn begun(alloc: Global, token: &Token) -> Option<Turn>
-    ensures { result ≡ spec.begun token.now }
+pub fn begin_part(alloc: Global, token: &Token) -> Option<Extension>
+    ensures { result ≡ spec.begin_part token.now }
 {
     match token {
-        Token::Word(word) => begun_by(*word),
-        Token::Sign(sign) => begun_at(alloc, *sign),
+        Token::Word(word) => begin_by_word(*word),
+        Token::Sign(sign) => begin_by_sign(alloc, *sign),
         _ => None,
     }
 }
 
-fn class_of(word: ClassedWord, negated: bool, what: ClassName) -> Turn
-    ensures { result ≡ spec.class_of word negated what }
+fn end_with_class(word: ClassedWord, negated: bool, what: ClassName) -> Extension
+    ensures { result ≡ spec.end_with_class word negated what }
 {
-    Turn::Ends(classed_word(word, Class { negated, what }))
+    Extension::Ends(classed_word(word, Class { negated, what }))
 }
 
-fn test_of(word: TestedWord, negated: bool, what: TestName) -> Turn
-    ensures { result ≡ spec.test_of word negated what }
+fn end_with_test(word: TestedWord, negated: bool, what: TestName) -> Extension
+    ensures { result ≡ spec.end_with_test word negated what }
 {
-    Turn::Ends(tested_word(word, PieceTest { negated, what }))
+    Extension::Ends(tested_word(word, PieceTest { negated, what }))
 }
 
-fn numbered(head: Head, number: Option<u64>) -> Option<Turn>
-    ensures { result ≡ spec.numbered head number }
+fn extend_by_number(head: Head, number: Option<u64>) -> Option<Extension>
+    ensures { result ≡ spec.extend_by_number head number }
 {
     match head {
-        Head::Counted(word) => Some(Turn::Ends(counted_word(word, number_of(number)))),
+        Head::Counted(word) => Some(Extension::Ends(counted_word(word, number_of(number)))),
         Head::Below(word, negated) => {
-            Some(class_of(word, negated, ClassName::Below(number_of(number))))
+            Some(end_with_class(word, negated, ClassName::Below(number_of(number))))
         }
         Head::Shorter(word, negated) => {
-            Some(test_of(word, negated, TestName::Shorter(number_of(number))))
+            Some(end_with_test(word, negated, TestName::Shorter(number_of(number))))
         }
         Head::NumberMap(map) => {
             let map = map_by_number(map, byte_of(number));
-            Some(Turn::Ends(Word::Elem(ElemWord::MapE(map))))
+            Some(Extension::Ends(Word::Elem(ElemWord::MapE(map))))
         }
         Head::SplitAt(at) => {
             let word = SplitWord::Split(at, number_of(number));
-            Some(Turn::Ends(Word::Split(word)))
+            Some(Extension::Ends(Word::Split(word)))
         }
-        Head::Replicate => Some(Turn::Goes(Head::Replicated(number))),
-        Head::Range => Some(Turn::Goes(Head::RangeFrom(number))),
+        Head::Replicate => Some(Extension::Goes(Head::Replicated(number))),
+        Head::Range => Some(Extension::Goes(Head::RangeFrom(number))),
         Head::RangeFrom(from) => {
             let word = SourceWord::Range(number_of(from), number_of(number));
-            Some(Turn::Ends(Word::Source(word)))
+            Some(Extension::Ends(Word::Source(word)))
         }
-        Head::Section(section) => Some(Turn::Goes(Head::Block(Block::Counts(section, number)))),
+        Head::Section(section) => Some(Extension::Goes(Head::Block(Block::Counts(
+            section, number,
+        )))),
         head => {
             drop(head);
             None
@@ -122,55 +124,59 @@ fn numbered(head: Head, number: Option<u64>) -> Option<Turn>
     }
 }
 
-fn is_scalar(word: ClassedWord, negated: bool, scalar: Option<char>) -> Option<Turn>
-    ensures { result ≡ spec.is_scalar word negated scalar }
+fn end_with_scalar(word: ClassedWord, negated: bool, scalar: Option<char>) -> Option<Extension>
+    ensures { result ≡ spec.end_with_scalar word negated scalar }
 {
     match scalar {
         None => None,
-        Some(scalar) => Some(class_of(word, negated, ClassName::Is(scalar))),
+        Some(scalar) => Some(end_with_class(word, negated, ClassName::Is(scalar))),
     }
 }
 
-fn split_at(scalar: Option<char>) -> Option<Turn>
+fn split_at(scalar: Option<char>) -> Option<Extension>
     ensures { result ≡ spec.split_at scalar }
 {
     match scalar {
         None => None,
-        Some(scalar) => Some(Turn::Goes(Head::SplitAt(scalar))),
+        Some(scalar) => Some(Extension::Goes(Head::SplitAt(scalar))),
     }
 }
 
-fn of_file(word: FileWord, name: Literal) -> Option<Turn>
-    ensures { result ≡ spec.of_file word name }
+fn end_with_file(word: FileWord, name: Literal) -> Option<Extension>
+    ensures { result ≡ spec.end_with_file word name }
 {
     if name.as_str().is_empty() {
         drop(name);
         None
     } else {
-        Some(Turn::Ends(file_word(word, name)))
+        Some(Extension::Ends(file_word(word, name)))
     }
 }
 
-fn marked(name: Literal) -> Option<Turn>
-    ensures { result ≡ spec.marked name }
+fn begin_mark(name: Literal) -> Option<Extension>
+    ensures { result ≡ spec.begin_mark name }
 {
     if name.as_str().is_empty() {
         drop(name);
         None
     } else {
-        Some(Turn::Goes(Head::Block(Block::Mark(name))))
+        Some(Extension::Goes(Head::Block(Block::Mark(name))))
     }
 }
 
-fn listed(word: ListWord, texts: LiteralList, text: Literal) -> Result<Option<Turn>, NoMemory>
-    ensures { IfOk result (λ turn. turn ≡ Some (Turn.Goes (Head.ListEnded word (texts ++ text ∷ [])))) }
+fn extend_list(
+    word: ListWord,
+    texts: LiteralList,
+    text: Literal,
+) -> Result<Option<Extension>, NoMemory>
+    ensures { IfOk result (λ extension. extension ≡ Some (Extension.Goes (Head.ListEnded word (texts ++ text ∷ [])))) }
 {
     let texts = with_last(texts, text)?;
-    Ok(Some(Turn::Goes(Head::ListEnded(word, texts))))
+    Ok(Some(Extension::Goes(Head::ListEnded(word, texts))))
 }
 
-fn texted(alloc: Global, head: Head, text: &str) -> Result<Option<Turn>, NoMemory>
-    ensures { IfOk result (λ turn. turn ≡ spec.texted head text.now) }
+fn extend_by_text(alloc: Global, head: Head, text: &str) -> Result<Option<Extension>, NoMemory>
+    ensures { IfOk result (λ extension. extension ≡ spec.extend_by_text head text.now) }
 {
     let literal = match Literal::new(alloc, text) {
         Ok(literal) => literal,
@@ -179,28 +185,28 @@ fn texted(alloc: Global, head: Head, text: &str) -> Result<Option<Turn>, NoMemor
     match head {
         Head::Is(word, negated) => {
             drop(literal);
-            Ok(is_scalar(word, negated, only_char(text)))
+            Ok(end_with_scalar(word, negated, only_char(text)))
         }
         Head::AtEnd(word, negated, test) => {
-            Ok(Some(test_of(word, negated, test_of_end(test, literal))))
+            Ok(Some(end_with_test(word, negated, test_of_end(test, literal))))
         }
         Head::EndMap(map) => {
             let map = map_by_text(map, literal);
-            Ok(Some(Turn::Ends(Word::Piece(PieceWord::Map(map)))))
+            Ok(Some(Extension::Ends(Word::Piece(PieceWord::Map(map)))))
         }
-        Head::Literal(word) => Ok(Some(Turn::Ends(literal_word(word, literal)))),
-        Head::File(word) => Ok(of_file(word, literal)),
+        Head::Literal(word) => Ok(Some(Extension::Ends(literal_word(word, literal)))),
+        Head::File(word) => Ok(end_with_file(word, literal)),
         Head::Split => {
             drop(literal);
             Ok(split_at(only_char(text)))
         }
-        Head::ListOpen(word) => listed(word, Items::new(alloc), literal),
-        Head::ListGoes(word, texts) => listed(word, texts, literal),
+        Head::ListOpen(word) => extend_list(word, Items::new(alloc), literal),
+        Head::ListGoes(word, texts) => extend_list(word, texts, literal),
         Head::Replicated(times) => {
             let word = SourceWord::Replicate(number_of(times), literal);
-            Ok(Some(Turn::Ends(Word::Source(word))))
+            Ok(Some(Extension::Ends(Word::Source(word))))
         }
-        Head::Mark => Ok(marked(literal)),
+        Head::Mark => Ok(begin_mark(literal)),
         head => {
             drop((head, literal));
             Ok(None)
@@ -208,76 +214,76 @@ fn texted(alloc: Global, head: Head, text: &str) -> Result<Option<Turn>, NoMemor
     }
 }
 
-fn class_begun(word: ClassedWord, negated: bool, next: Keyword) -> Option<Turn>
-    ensures { result ≡ spec.class_begun word negated next }
+fn begin_class(word: ClassedWord, negated: bool, next: Keyword) -> Option<Extension>
+    ensures { result ≡ spec.begin_class word negated next }
 {
     match next {
-        Keyword::Class(class) => Some(class_of(word, negated, plain_class(class))),
-        Keyword::Is => Some(Turn::Goes(Head::Is(word, negated))),
-        Keyword::Below => Some(Turn::Goes(Head::Below(word, negated))),
+        Keyword::Class(class) => Some(end_with_class(word, negated, plain_class(class))),
+        Keyword::Is => Some(Extension::Goes(Head::Is(word, negated))),
+        Keyword::Below => Some(Extension::Goes(Head::Below(word, negated))),
         _ => None,
     }
 }
 
-fn class_or_not(word: ClassedWord, next: Keyword) -> Option<Turn>
-    ensures { result ≡ spec.class_or_not word next }
+fn begin_class_or_not(word: ClassedWord, next: Keyword) -> Option<Extension>
+    ensures { result ≡ spec.begin_class_or_not word next }
 {
     match next {
-        Keyword::Not => Some(Turn::Goes(Head::ClassedNot(word))),
-        _ => class_begun(word, false, next),
+        Keyword::Not => Some(Extension::Goes(Head::ClassedNot(word))),
+        _ => begin_class(word, false, next),
     }
 }
 
-fn test_begun(word: TestedWord, negated: bool, next: Keyword) -> Option<Turn>
-    ensures { result ≡ spec.test_begun word negated next }
+fn begin_test(word: TestedWord, negated: bool, next: Keyword) -> Option<Extension>
+    ensures { result ≡ spec.begin_test word negated next }
 {
     match next {
-        Keyword::Empty => Some(test_of(word, negated, TestName::Empty)),
-        Keyword::EndTest(test) => Some(Turn::Goes(Head::AtEnd(word, negated, test))),
-        Keyword::Shorter => Some(Turn::Goes(Head::Shorter(word, negated))),
+        Keyword::Empty => Some(end_with_test(word, negated, TestName::Empty)),
+        Keyword::EndTest(test) => Some(Extension::Goes(Head::AtEnd(word, negated, test))),
+        Keyword::Shorter => Some(Extension::Goes(Head::Shorter(word, negated))),
         _ => None,
     }
 }
 
-fn test_or_not(word: TestedWord, next: Keyword) -> Option<Turn>
-    ensures { result ≡ spec.test_or_not word next }
+fn begin_test_or_not(word: TestedWord, next: Keyword) -> Option<Extension>
+    ensures { result ≡ spec.begin_test_or_not word next }
 {
     match next {
-        Keyword::Not => Some(Turn::Goes(Head::TestedNot(word))),
-        _ => test_begun(word, false, next),
+        Keyword::Not => Some(Extension::Goes(Head::TestedNot(word))),
+        _ => begin_test(word, false, next),
     }
 }
 
-fn element_mapped(next: Keyword) -> Option<Turn>
-    ensures { result ≡ spec.element_mapped next }
+fn begin_element_map(next: Keyword) -> Option<Extension>
+    ensures { result ≡ spec.begin_element_map next }
 {
     match next {
-        Keyword::NumberMap(map) => Some(Turn::Goes(Head::NumberMap(map))),
-        Keyword::Rot13 => Some(Turn::Ends(Word::Elem(ElemWord::MapE(ByteMap::Rot13)))),
+        Keyword::NumberMap(map) => Some(Extension::Goes(Head::NumberMap(map))),
+        Keyword::Rot13 => Some(Extension::Ends(Word::Elem(ElemWord::MapE(ByteMap::Rot13)))),
         _ => None,
     }
 }
 
-fn piece_mapped(next: Keyword) -> Option<Turn>
-    ensures { result ≡ spec.piece_mapped next }
+fn begin_piece_map(next: Keyword) -> Option<Extension>
+    ensures { result ≡ spec.begin_piece_map next }
 {
     match next {
-        Keyword::EndMap(map) => Some(Turn::Goes(Head::EndMap(map))),
-        Keyword::Reverse => Some(Turn::Ends(Word::Piece(PieceWord::Map(PieceMap::Reverse)))),
+        Keyword::EndMap(map) => Some(Extension::Goes(Head::EndMap(map))),
+        Keyword::Reverse => Some(Extension::Ends(Word::Piece(PieceWord::Map(PieceMap::Reverse)))),
         _ => None,
     }
 }
 
-fn worded(head: Head, next: Keyword) -> Option<Turn>
-    ensures { result ≡ spec.worded head next }
+fn extend_by_word(head: Head, next: Keyword) -> Option<Extension>
+    ensures { result ≡ spec.extend_by_word head next }
 {
     match head {
-        Head::Classed(word) => class_or_not(word, next),
-        Head::ClassedNot(word) => class_begun(word, true, next),
-        Head::Tested(word) => test_or_not(word, next),
-        Head::TestedNot(word) => test_begun(word, true, next),
-        Head::MapE => element_mapped(next),
-        Head::Map => piece_mapped(next),
+        Head::Classed(word) => begin_class_or_not(word, next),
+        Head::ClassedNot(word) => begin_class(word, true, next),
+        Head::Tested(word) => begin_test_or_not(word, next),
+        Head::TestedNot(word) => begin_test(word, true, next),
+        Head::MapE => begin_element_map(next),
+        Head::Map => begin_piece_map(next),
         head => {
             drop(head);
             None
@@ -285,23 +291,23 @@ fn worded(head: Head, next: Keyword) -> Option<Turn>
     }
 }
 
-fn signed(alloc: Global, head: Head, sign: Sign) -> Option<Turn>
-    ensures { result ≡ spec.signed head sign }
+fn extend_by_sign(alloc: Global, head: Head, sign: Sign) -> Option<Extension>
+    ensures { result ≡ spec.extend_by_sign head sign }
 {
     match (head, sign) {
-        (Head::List(word), Sign::OpenSquare) => Some(Turn::Goes(Head::ListOpen(word))),
+        (Head::List(word), Sign::OpenSquare) => Some(Extension::Goes(Head::ListOpen(word))),
         (Head::ListOpen(word), Sign::CloseSquare) => {
-            Some(Turn::Ends(list_word(word, Items::new(alloc))))
+            Some(Extension::Ends(list_word(word, Items::new(alloc))))
         }
         (Head::ListEnded(word, texts), Sign::Comma) => {
-            Some(Turn::Goes(Head::ListGoes(word, texts)))
+            Some(Extension::Goes(Head::ListGoes(word, texts)))
         }
         (Head::ListEnded(word, texts), Sign::CloseSquare) => {
-            Some(Turn::Ends(list_word(word, texts)))
+            Some(Extension::Ends(list_word(word, texts)))
         }
-        (Head::Block(block), Sign::OpenBrace) => Some(Turn::Opens(Frame::Block(block))),
-        (Head::Tee, Sign::OpenParen) => Some(Turn::Opens(Frame::Tee)),
-        (Head::Zip(zip), Sign::OpenParen) => Some(Turn::Opens(Frame::ZipFirst(zip))),
+        (Head::Block(block), Sign::OpenBrace) => Some(Extension::Opens(Frame::Block(block))),
+        (Head::Tee, Sign::OpenParen) => Some(Extension::Opens(Frame::Tee)),
+        (Head::Zip(zip), Sign::OpenParen) => Some(Extension::Opens(Frame::ZipFirst(zip))),
         (head, _) => {
             drop(head);
             None
@@ -310,14 +316,14 @@ fn signed(alloc: Global, head: Head, sign: Sign) -> Option<Turn>
 }
 
 /// What a token makes of the front of a word or of a form.
-pub fn further(alloc: Global, head: Head, token: &Token) -> Result<Option<Turn>, NoMemory>
-    ensures { IfOk result (λ turn. turn ≡ spec.further head token.now) }
+pub fn extend(alloc: Global, head: Head, token: &Token) -> Result<Option<Extension>, NoMemory>
+    ensures { IfOk result (λ extension. extension ≡ spec.extend head token.now) }
 {
     match token {
-        Token::Word(word) => Ok(worded(head, *word)),
-        Token::Sign(sign) => Ok(signed(alloc, head, *sign)),
-        Token::Number(number) => Ok(numbered(head, *number)),
-        Token::Text(text) => texted(alloc, head, text.as_str()),
+        Token::Word(word) => Ok(extend_by_word(head, *word)),
+        Token::Sign(sign) => Ok(extend_by_sign(alloc, head, *sign)),
+        Token::Number(number) => Ok(extend_by_number(head, *number)),
+        Token::Text(text) => extend_by_text(alloc, head, text.as_str()),
         Token::Named(_) => {
             drop(head);
             Ok(None)

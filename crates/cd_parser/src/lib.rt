@@ -5,14 +5,17 @@
 #![tactic(auto)]
 
 mod brackets;
+mod chains;
 mod heads;
-mod joining;
 mod machine;
 mod stack;
 mod state;
 mod statements;
-mod words;
+mod word_trees;
 
 pub use stack::Stack;
-pub use state::{Block, Chain, Exit, Frame, Head, Inside, Level, Need, Owner, Place, State, Turn};
+pub use state::{
+    Block, Chain, Exit, Expected, Extension, Frame, Head, Inside, Level, Owner, ParserState,
+    Position,
+};
 pub use statements::step;

@@ -1,14 +1,14 @@
 // What a token makes of the place in a pipe.
 ghost use Rattle.std.specs.Prelude.{◌≡◌, [], ◌∷◌, ◌++◌, IfOk, Some};
 ghost use Rattle.cd_parser.specs.declared.state.Chain.TheVariants as chain;
-ghost use Rattle.cd_parser.specs.declared.state.Need.TheVariants as need;
+ghost use Rattle.cd_parser.specs.declared.state.Expected.TheVariants as expected;
 ghost use Rattle.cd_parser.specs.Machine as spec;
 
-use crate::brackets::{both_boxed, left};
-use crate::heads::{begun, further, let_go, with_last};
-use crate::joining::{closed, joined, operator_of};
+use crate::brackets::{box_both, leave_bracket};
+use crate::chains::{close_chain, join_part, operator_of};
+use crate::heads::{begin_part, extend, let_go, with_last};
 use crate::stack::Stack;
-use crate::state::{Chain, Exit, Inside, Level, Need, Owner, Place, State, Turn};
+use crate::state::{Chain, Exit, Expected, Extension, Inside, Level, Owner, ParserState, Position};
 use cd_elem::{Literal, NoMemory, Pipe, Sign, Stmt, StmtList, Token};
 use std::alloc::Global;
 
@@ -23,22 +23,22 @@ fn with_top(levels: Stack<Level>, top: Level) -> Result<Stack<Level>, NoMemory>
     }
 }
 
-pub fn within(
+pub fn state_within(
     statements: StmtList,
     owner: Owner,
     levels: Stack<Level>,
     chain: Chain,
-    need: Need,
-) -> State
-    ensures { result ≡ spec.within statements owner levels chain need }
+    expected: Expected,
+) -> ParserState
+    ensures { result ≡ spec.state_within statements owner levels chain expected }
 {
-    State {
+    ParserState {
         statements,
-        place: Place::Inside(Inside {
+        position: Position::Inside(Inside {
             owner,
             levels,
             chain,
-            need,
+            expected,
         }),
     }
 }
@@ -49,38 +49,44 @@ fn opened(
     owner: Owner,
     levels: Stack<Level>,
     level: Level,
-) -> Result<Option<State>, NoMemory>
-    ensures { IfOk result (λ state. state ≡ Some (spec.within statements owner (level ∷ levels) chain.Alone need.Part)) }
+) -> Result<Option<ParserState>, NoMemory>
+    ensures { IfOk result (λ state. state ≡ Some (spec.state_within statements owner (level ∷ levels) chain.Alone expected.Part)) }
 {
     match with_top(levels, level) {
-        Ok(levels) => Ok(Some(within(statements, owner, levels, Chain::Alone, Need::Part))),
+        Ok(levels) => Ok(Some(state_within(
+            statements,
+            owner,
+            levels,
+            Chain::Alone,
+            Expected::Part,
+        ))),
         Err(NoMemory) => Err(let_go((statements, owner))),
     }
 }
 
-fn turned(
+fn after_extension(
     statements: StmtList,
     owner: Owner,
     levels: Stack<Level>,
     chain: Chain,
-    turn: Option<Turn>,
-) -> Result<Option<State>, NoMemory>
-    ensures { IfOk result (λ state. state ≡ spec.turned_by statements owner levels chain turn) }
+    extension: Option<Extension>,
+) -> Result<Option<ParserState>, NoMemory>
+    ensures { IfOk result (λ state. state ≡ spec.after_extension_if_any statements owner levels chain extension) }
 {
-    match turn {
+    match extension {
         None => {
             drop((statements, owner, levels, chain));
             Ok(None)
         }
-        Some(Turn::Goes(head)) => {
-            let need = Need::Further(head);
-            Ok(Some(within(statements, owner, levels, chain, need)))
+        Some(Extension::Goes(head)) => {
+            let expected = Expected::Further(head);
+            Ok(Some(state_within(statements, owner, levels, chain, expected)))
         }
-        Some(Turn::Ends(word)) => {
-            let need = Need::Ended(Pipe::Word(word));
-            Ok(Some(within(statements, owner, levels, chain, need)))
+        Some(Extension::Ends(word)) => {
+            let expected = Expected::Ended(Pipe::Word(word));
+            Ok(Some(state_within(statements, owner, levels, chain, expected)))
         }
-        Some(Turn::Opens(frame)) => {
+        Some(Extension::Opens(frame)) => {
             opened(
                 statements,
                 owner,
@@ -94,8 +100,8 @@ fn turned(
     }
 }
 
-fn owned(owner: Owner, pipe: Pipe) -> Stmt
-    ensures { result ≡ spec.owned owner pipe }
+fn owned_statement(owner: Owner, pipe: Pipe) -> Stmt
+    ensures { result ≡ spec.owned_statement owner pipe }
 {
     match owner {
         Owner::Run => Stmt::Run(pipe),
@@ -111,8 +117,8 @@ fn exited(
     levels: Stack<Level>,
     outer: Chain,
     exit: Option<Exit>,
-) -> Result<Option<State>, NoMemory>
-    ensures { IfOk result (λ state. state ≡ spec.left_by statements owner levels outer exit) }
+) -> Result<Option<ParserState>, NoMemory>
+    ensures { IfOk result (λ state. state ≡ spec.after_exit_if_any statements owner levels outer exit) }
 {
     match exit {
         None => {
@@ -121,36 +127,36 @@ fn exited(
         }
         Some(Exit::Stays(frame)) => { opened(statements, owner, levels, Level { frame, outer }) }
         Some(Exit::Closes(pipe)) => {
-            Ok(Some(within(statements, owner, levels, outer, Need::Ended(pipe))))
+            Ok(Some(state_within(statements, owner, levels, outer, Expected::Ended(pipe))))
         }
         Some(Exit::Asks(first, second)) => {
-            let need = Need::ZipText(first, second);
-            Ok(Some(within(statements, owner, levels, outer, need)))
+            let expected = Expected::ZipText(first, second);
+            Ok(Some(state_within(statements, owner, levels, outer, expected)))
         }
     }
 }
 
 /// The state behind one more statement.
-pub fn between(statements: StmtList, statement: Stmt) -> Result<State, NoMemory>
-    ensures { IfOk result (λ state. state ≡ spec.between statements statement) }
+pub fn end_statement(statements: StmtList, statement: Stmt) -> Result<ParserState, NoMemory>
+    ensures { IfOk result (λ state. state ≡ spec.end_statement statements statement) }
 {
     let statements = with_last(statements, statement)?;
-    Ok(State {
+    Ok(ParserState {
         statements,
-        place: Place::Between,
+        position: Position::Between,
     })
 }
 
-fn finished(
+fn finish_statement(
     statements: StmtList,
     owner: Owner,
     pipe: Pipe,
     sign: Sign,
-) -> Result<Option<State>, NoMemory>
-    ensures { IfOk result (λ state. state ≡ spec.finished statements owner pipe sign) }
+) -> Result<Option<ParserState>, NoMemory>
+    ensures { IfOk result (λ state. state ≡ spec.finish_statement statements owner pipe sign) }
 {
     match sign {
-        Sign::Semicolon => Ok(Some(between(statements, owned(owner, pipe))?)),
+        Sign::Semicolon => Ok(Some(end_statement(statements, owned_statement(owner, pipe))?)),
         _ => {
             drop((statements, owner, pipe));
             Ok(None)
@@ -158,25 +164,25 @@ fn finished(
     }
 }
 
-fn ended(
+fn end_pipe(
     alloc: Global,
     statements: StmtList,
     owner: Owner,
     levels: Stack<Level>,
     pipe: Pipe,
     sign: Sign,
-) -> Result<Option<State>, NoMemory>
-    ensures { IfOk result (λ state. state ≡ spec.ended statements owner levels pipe sign) }
+) -> Result<Option<ParserState>, NoMemory>
+    ensures { IfOk result (λ state. state ≡ spec.end_pipe statements owner levels pipe sign) }
 {
     let mut levels = levels;
     match levels.pop() {
         None => {
             drop(levels);
-            finished(statements, owner, pipe, sign)
+            finish_statement(statements, owner, pipe, sign)
         }
         Some(level) => {
             let Level { frame, outer } = level;
-            match left(alloc, frame, pipe, sign) {
+            match leave_bracket(alloc, frame, pipe, sign) {
                 Ok(exit) => exited(statements, owner, levels, outer, exit),
                 Err(NoMemory) => Err(let_go((statements, owner, levels, outer))),
             }
@@ -189,15 +195,15 @@ fn continued(
     owner: Owner,
     levels: Stack<Level>,
     chain: Option<Chain>,
-) -> Option<State>
-    ensures { result ≡ spec.joined_by statements owner levels chain }
+) -> Option<ParserState>
+    ensures { result ≡ spec.after_join_if_any statements owner levels chain }
 {
     match chain {
         None => {
             drop((statements, owner, levels));
             None
         }
-        Some(chain) => Some(within(statements, owner, levels, chain, Need::Part)),
+        Some(chain) => Some(state_within(statements, owner, levels, chain, Expected::Part)),
     }
 }
 
@@ -210,23 +216,23 @@ fn behind_sign(
     chain: Chain,
     part: Pipe,
     sign: Sign,
-) -> Result<Option<State>, NoMemory>
+) -> Result<Option<ParserState>, NoMemory>
     ensures { IfOk result (λ state. state
-        ≡ spec.behind_by statements owner levels chain part sign (spec.operator_of sign)) }
+        ≡ spec.follow_part_by statements owner levels chain part sign (spec.operator_of sign)) }
 {
     match operator_of(sign) {
-        None => match closed(chain, part) {
-            Ok(pipe) => ended(alloc, statements, owner, levels, pipe, sign),
+        None => match close_chain(chain, part) {
+            Ok(pipe) => end_pipe(alloc, statements, owner, levels, pipe, sign),
             Err(NoMemory) => Err(let_go((statements, owner, levels))),
         },
-        Some(join) => match joined(alloc, chain, join, part) {
+        Some(join) => match join_part(alloc, chain, join, part) {
             Ok(chain) => Ok(continued(statements, owner, levels, chain)),
             Err(NoMemory) => Err(let_go((statements, owner, levels))),
         },
     }
 }
 
-fn behind(
+fn follow_part(
     alloc: Global,
     statements: StmtList,
     owner: Owner,
@@ -234,8 +240,8 @@ fn behind(
     chain: Chain,
     part: Pipe,
     token: &Token,
-) -> Result<Option<State>, NoMemory>
-    ensures { IfOk result (λ state. state ≡ spec.behind statements owner levels chain part token.now) }
+) -> Result<Option<ParserState>, NoMemory>
+    ensures { IfOk result (λ state. state ≡ spec.follow_part statements owner levels chain part token.now) }
 {
     match token {
         Token::Sign(sign) => behind_sign(alloc, statements, owner, levels, chain, part, *sign),
@@ -246,7 +252,7 @@ fn behind(
     }
 }
 
-fn zip_text(
+fn read_zip_text(
     alloc: Global,
     statements: StmtList,
     owner: Owner,
@@ -255,15 +261,15 @@ fn zip_text(
     first: Pipe,
     second: Pipe,
     token: &Token,
-) -> Result<Option<State>, NoMemory>
+) -> Result<Option<ParserState>, NoMemory>
     ensures { IfOk result (λ state. state
-        ≡ spec.zip_text statements owner levels chain first second token.now) }
+        ≡ spec.read_zip_text statements owner levels chain first second token.now) }
 {
     match token {
         Token::Text(text) => match Literal::new(alloc, text.as_str()) {
             Ok(text) => {
-                let need = Need::ZipEnd(first, second, text);
-                Ok(Some(within(statements, owner, levels, chain, need)))
+                let expected = Expected::ZipEnd(first, second, text);
+                Ok(Some(state_within(statements, owner, levels, chain, expected)))
             }
             Err(NoMemory) => Err(let_go((statements, owner, levels, chain, first, second))),
         },
@@ -274,19 +280,19 @@ fn zip_text(
     }
 }
 
-fn zip_end(
+fn close_zip(
     statements: StmtList,
     owner: Owner,
     levels: Stack<Level>,
     chain: Chain,
     zip: Pipe,
     token: &Token,
-) -> Option<State>
-    ensures { result ≡ spec.zip_end statements owner levels chain zip token.now }
+) -> Option<ParserState>
+    ensures { result ≡ spec.close_zip statements owner levels chain zip token.now }
 {
     match token {
         Token::Sign(Sign::CloseParen) => {
-            Some(within(statements, owner, levels, chain, Need::Ended(zip)))
+            Some(state_within(statements, owner, levels, chain, Expected::Ended(zip)))
         }
         _ => {
             drop((statements, owner, levels, chain, zip));
@@ -300,35 +306,41 @@ pub fn step_within(
     statements: StmtList,
     inside: Inside,
     token: &Token,
-) -> Result<Option<State>, NoMemory>
+) -> Result<Option<ParserState>, NoMemory>
     ensures { IfOk result (λ state. state
-        ≡ spec.step_within statements inside.owner inside.levels inside.chain inside.need token.now) }
+        ≡ spec.step_within statements inside.owner inside.levels inside.chain inside.expected token.now) }
 {
     let Inside {
         owner,
         levels,
         chain,
-        need,
+        expected,
     } = inside;
-    match need {
-        Need::Part => turned(statements, owner, levels, chain, begun(alloc, token)),
-        Need::Further(head) => {
-            match further(alloc, head, token) {
-                Ok(turn) => turned(statements, owner, levels, chain, turn),
+    match expected {
+        Expected::Part => after_extension(
+            statements,
+            owner,
+            levels,
+            chain,
+            begin_part(alloc, token),
+        ),
+        Expected::Further(head) => {
+            match extend(alloc, head, token) {
+                Ok(extension) => after_extension(statements, owner, levels, chain, extension),
                 Err(NoMemory) => Err(let_go((statements, owner, levels, chain))),
             }
         }
-        Need::Ended(part) => behind(alloc, statements, owner, levels, chain, part, token),
-        Need::ZipText(first, second) => {
-            zip_text(
+        Expected::Ended(part) => follow_part(alloc, statements, owner, levels, chain, part, token),
+        Expected::ZipText(first, second) => {
+            read_zip_text(
                 alloc, statements, owner, levels, chain, first, second, token,
             )
         }
-        Need::ZipEnd(first, second, text) => {
-            match both_boxed(alloc, first, second) {
+        Expected::ZipEnd(first, second, text) => {
+            match box_both(alloc, first, second) {
                 Ok((first, second)) => {
                     let zip = Pipe::ZipSource(first, second, text);
-                    Ok(zip_end(statements, owner, levels, chain, zip, token))
+                    Ok(close_zip(statements, owner, levels, chain, zip, token))
                 }
                 Err(NoMemory) => Err(let_go((statements, owner, levels, chain, text))),
             }

@@ -85,7 +85,7 @@ pub enum Head {
 
 /// What the next token has to go on with.
 #[derive(Drop)]
-pub enum Need {
+pub enum Expected {
     /// A part.
     Part,
     /// The rest of a word or of a form's front.
@@ -104,12 +104,12 @@ pub struct Inside {
     pub owner: Owner,
     pub levels: Stack<Level>,
     pub chain: Chain,
-    pub need: Need,
+    pub expected: Expected,
 }
 
 /// Where in a statement the parser stands.
 #[derive(Drop)]
-pub enum Place {
+pub enum Position {
     Between,
     Opened(Opening),
     Named(Opening, Name),
@@ -126,14 +126,14 @@ pub enum Place {
 
 /// The statements that have ended, and the place in the next one.
 #[derive(Drop)]
-pub struct State {
+pub struct ParserState {
     pub statements: StmtList,
-    pub place: Place,
+    pub position: Position,
 }
 
 /// What a token makes of the front of a word or of a form.
 #[derive(Drop)]
-pub enum Turn {
+pub enum Extension {
     Goes(Head),
     Ends(Word),
     Opens(Frame),

@@ -3,28 +3,28 @@ ghost use Rattle.std.specs.Prelude.{◌≡◌, IfOk};
 ghost use Rattle.cd_parser.specs.Machine as spec;
 
 use crate::heads::let_go;
-use crate::machine::{between, step_within, within};
+use crate::machine::{end_statement, state_within, step_within};
 use crate::stack::Stack;
-use crate::state::{Chain, Need, Owner, Place, State};
+use crate::state::{Chain, Expected, Owner, ParserState, Position};
 use cd_elem::{Join, Keyword, Literal, Name, NoMemory, Opening, Sign, Stmt, StmtList, Token};
 use std::alloc::Global;
 
 /// The state at the begin of a statement's pipe.
-fn begins(alloc: Global, statements: StmtList, owner: Owner) -> State
-    ensures { result ≡ spec.begins statements owner }
+fn begin_pipe(alloc: Global, statements: StmtList, owner: Owner) -> ParserState
+    ensures { result ≡ spec.begin_pipe statements owner }
 {
     let levels = Stack::new(alloc);
-    within(statements, owner, levels, Chain::Alone, Need::Part)
+    state_within(statements, owner, levels, Chain::Alone, Expected::Part)
 }
 
-fn started(alloc: Global, statements: StmtList, word: Keyword) -> Option<State>
-    ensures { result ≡ spec.started statements word }
+fn begin_statement(alloc: Global, statements: StmtList, word: Keyword) -> Option<ParserState>
+    ensures { result ≡ spec.begin_statement statements word }
 {
     match word {
-        Keyword::Run => Some(begins(alloc, statements, Owner::Run)),
-        Keyword::Opening(opening) => Some(State {
+        Keyword::Run => Some(begin_pipe(alloc, statements, Owner::Run)),
+        Keyword::Opening(opening) => Some(ParserState {
             statements,
-            place: Place::Opened(opening),
+            position: Position::Opened(opening),
         }),
         _ => {
             drop(statements);
@@ -33,11 +33,11 @@ fn started(alloc: Global, statements: StmtList, word: Keyword) -> Option<State>
     }
 }
 
-fn first_word(alloc: Global, statements: StmtList, token: &Token) -> Option<State>
-    ensures { result ≡ spec.step_at statements Place.Between token.now }
+fn read_first_word(alloc: Global, statements: StmtList, token: &Token) -> Option<ParserState>
+    ensures { result ≡ spec.step_at statements Position.Between token.now }
 {
     match token {
-        Token::Word(word) => started(alloc, statements, *word),
+        Token::Word(word) => begin_statement(alloc, statements, *word),
         _ => {
             drop(statements);
             None
@@ -45,19 +45,19 @@ fn first_word(alloc: Global, statements: StmtList, token: &Token) -> Option<Stat
     }
 }
 
-fn name_of(
+fn read_name(
     alloc: Global,
     statements: StmtList,
     opening: Opening,
     token: &Token,
-) -> Result<Option<State>, NoMemory>
-    ensures { IfOk result (λ state. state ≡ spec.step_at statements (Place.Opened opening) token.now) }
+) -> Result<Option<ParserState>, NoMemory>
+    ensures { IfOk result (λ state. state ≡ spec.step_at statements (Position.Opened opening) token.now) }
 {
     match token {
         Token::Named(name) => match Name::new(alloc, name.as_str()) {
-            Ok(name) => Ok(Some(State {
+            Ok(name) => Ok(Some(ParserState {
                 statements,
-                place: Place::Named(opening, name),
+                position: Position::Named(opening, name),
             })),
             Err(NoMemory) => Err(let_go(statements)),
         },
@@ -68,32 +68,32 @@ fn name_of(
     }
 }
 
-fn named(
+fn follow_name(
     alloc: Global,
     statements: StmtList,
     opening: Opening,
     name: Name,
     sign: Sign,
-) -> Result<Option<State>, NoMemory>
-    ensures { IfOk result (λ state. state ≡ spec.named_by statements opening name sign) }
+) -> Result<Option<ParserState>, NoMemory>
+    ensures { IfOk result (λ state. state ≡ spec.follow_name statements opening name sign) }
 {
     match (opening, sign) {
-        (Opening::Let, Sign::Equals) => Ok(Some(State {
+        (Opening::Let, Sign::Equals) => Ok(Some(ParserState {
             statements,
-            place: Place::Sealing(name),
+            position: Position::Sealing(name),
         })),
         (Opening::Feed, Sign::Operator(Join::Plain)) => {
-            Ok(Some(begins(alloc, statements, Owner::Feed(name))))
+            Ok(Some(begin_pipe(alloc, statements, Owner::Feed(name))))
         }
         (Opening::Close, Sign::Operator(Join::Plain)) => {
-            Ok(Some(begins(alloc, statements, Owner::CloseSeal(name))))
+            Ok(Some(begin_pipe(alloc, statements, Owner::CloseSeal(name))))
         }
-        (Opening::Hold, Sign::Equals) => Ok(Some(State {
+        (Opening::Hold, Sign::Equals) => Ok(Some(ParserState {
             statements,
-            place: Place::Holding(name),
+            position: Position::Holding(name),
         })),
         (Opening::Release, Sign::Semicolon) => {
-            Ok(Some(between(statements, Stmt::Release(name))?))
+            Ok(Some(end_statement(statements, Stmt::Release(name))?))
         }
         _ => {
             drop((statements, name));
@@ -102,17 +102,17 @@ fn named(
     }
 }
 
-fn behind_name(
+fn step_behind_name(
     alloc: Global,
     statements: StmtList,
     opening: Opening,
     name: Name,
     token: &Token,
-) -> Result<Option<State>, NoMemory>
-    ensures { IfOk result (λ state. state ≡ spec.step_at statements (Place.Named opening name) token.now) }
+) -> Result<Option<ParserState>, NoMemory>
+    ensures { IfOk result (λ state. state ≡ spec.step_at statements (Position.Named opening name) token.now) }
 {
     match token {
-        Token::Sign(sign) => named(alloc, statements, opening, name, *sign),
+        Token::Sign(sign) => follow_name(alloc, statements, opening, name, *sign),
         _ => {
             drop((statements, name));
             Ok(None)
@@ -120,11 +120,11 @@ fn behind_name(
     }
 }
 
-fn sealing(alloc: Global, statements: StmtList, name: Name, token: &Token) -> Option<State>
-    ensures { result ≡ spec.step_at statements (Place.Sealing name) token.now }
+fn read_seal(alloc: Global, statements: StmtList, name: Name, token: &Token) -> Option<ParserState>
+    ensures { result ≡ spec.step_at statements (Position.Sealing name) token.now }
 {
     match token {
-        Token::Word(Keyword::Seal) => Some(begins(alloc, statements, Owner::Seal(name))),
+        Token::Word(Keyword::Seal) => Some(begin_pipe(alloc, statements, Owner::Seal(name))),
         _ => {
             drop((statements, name));
             None
@@ -132,13 +132,13 @@ fn sealing(alloc: Global, statements: StmtList, name: Name, token: &Token) -> Op
     }
 }
 
-fn holding(statements: StmtList, name: Name, token: &Token) -> Option<State>
-    ensures { result ≡ spec.step_at statements (Place.Holding name) token.now }
+fn read_mark(statements: StmtList, name: Name, token: &Token) -> Option<ParserState>
+    ensures { result ≡ spec.step_at statements (Position.Holding name) token.now }
 {
     match token {
-        Token::Word(Keyword::Mark) => Some(State {
+        Token::Word(Keyword::Mark) => Some(ParserState {
             statements,
-            place: Place::Marking(name),
+            position: Position::Marking(name),
         }),
         _ => {
             drop((statements, name));
@@ -147,37 +147,37 @@ fn holding(statements: StmtList, name: Name, token: &Token) -> Option<State>
     }
 }
 
-fn held(
+fn hold_file(
     alloc: Global,
     statements: StmtList,
     name: Name,
     file: &str,
-) -> Result<Option<State>, NoMemory>
-    ensures { IfOk result (λ state. state ≡ spec.held statements name file.now) }
+) -> Result<Option<ParserState>, NoMemory>
+    ensures { IfOk result (λ state. state ≡ spec.hold_file statements name file.now) }
 {
     if file.is_empty() {
         drop((statements, name));
         return Ok(None);
     }
     match Literal::new(alloc, file) {
-        Ok(file) => Ok(Some(State {
+        Ok(file) => Ok(Some(ParserState {
             statements,
-            place: Place::Marked(name, file),
+            position: Position::Marked(name, file),
         })),
         Err(NoMemory) => Err(let_go((statements, name))),
     }
 }
 
-fn marking(
+fn read_held_file(
     alloc: Global,
     statements: StmtList,
     name: Name,
     token: &Token,
-) -> Result<Option<State>, NoMemory>
-    ensures { IfOk result (λ state. state ≡ spec.step_at statements (Place.Marking name) token.now) }
+) -> Result<Option<ParserState>, NoMemory>
+    ensures { IfOk result (λ state. state ≡ spec.step_at statements (Position.Marking name) token.now) }
 {
     match token {
-        Token::Text(file) => held(alloc, statements, name, file.as_str()),
+        Token::Text(file) => hold_file(alloc, statements, name, file.as_str()),
         _ => {
             drop((statements, name));
             Ok(None)
@@ -185,16 +185,18 @@ fn marking(
     }
 }
 
-fn marked(
+fn end_hold(
     statements: StmtList,
     name: Name,
     file: Literal,
     token: &Token,
-) -> Result<Option<State>, NoMemory>
-    ensures { IfOk result (λ state. state ≡ spec.step_at statements (Place.Marked name file) token.now) }
+) -> Result<Option<ParserState>, NoMemory>
+    ensures { IfOk result (λ state. state ≡ spec.step_at statements (Position.Marked name file) token.now) }
 {
     match token {
-        Token::Sign(Sign::Semicolon) => { Ok(Some(between(statements, Stmt::Hold(name, file))?)) }
+        Token::Sign(Sign::Semicolon) => {
+            Ok(Some(end_statement(statements, Stmt::Hold(name, file))?))
+        }
         _ => {
             drop((statements, name, file));
             Ok(None)
@@ -203,18 +205,25 @@ fn marked(
 }
 
 /// The state behind this token, or None where it is refused.
-pub fn step(alloc: Global, state: State, token: &Token) -> Result<Option<State>, NoMemory>
+pub fn step(
+    alloc: Global,
+    state: ParserState,
+    token: &Token,
+) -> Result<Option<ParserState>, NoMemory>
     ensures { IfOk result (λ state_then. state_then ≡ spec.step state token.now) }
 {
-    let State { statements, place } = state;
-    match place {
-        Place::Between => Ok(first_word(alloc, statements, token)),
-        Place::Opened(opening) => name_of(alloc, statements, opening, token),
-        Place::Named(opening, name) => behind_name(alloc, statements, opening, name, token),
-        Place::Sealing(name) => Ok(sealing(alloc, statements, name, token)),
-        Place::Holding(name) => Ok(holding(statements, name, token)),
-        Place::Marking(name) => marking(alloc, statements, name, token),
-        Place::Marked(name, file) => marked(statements, name, file, token),
-        Place::Inside(inside) => step_within(alloc, statements, inside, token),
+    let ParserState {
+        statements,
+        position,
+    } = state;
+    match position {
+        Position::Between => Ok(read_first_word(alloc, statements, token)),
+        Position::Opened(opening) => read_name(alloc, statements, opening, token),
+        Position::Named(opening, name) => step_behind_name(alloc, statements, opening, name, token),
+        Position::Sealing(name) => Ok(read_seal(alloc, statements, name, token)),
+        Position::Holding(name) => Ok(read_mark(statements, name, token)),
+        Position::Marking(name) => read_held_file(alloc, statements, name, token),
+        Position::Marked(name, file) => end_hold(statements, name, file, token),
+        Position::Inside(inside) => step_within(alloc, statements, inside, token),
     }
 }

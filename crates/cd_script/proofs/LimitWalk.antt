@@ -9,12 +9,12 @@ use Rattle.cd_elem.specs.declared.token.Token.{Token}
 use Rattle.cd_elem.specs.declared.token.Token.TheVariants as token
 use Rattle.cd_elem.specs.declared.token.LimitKind.{LimitKind}
 use Rattle.cd_elem.specs.declared.token.LimitKind.TheVariants.{Tokens, Depth, Literal, Number}
-use Rattle.cd_grammar.specs.Limits.{Bounds, every_number, bounds_behind, brackets_with, sign_brackets, is_opening, is_too_long, is_outside, limit_of, limit_here, IsWithinLimits}
+use Rattle.cd_grammar.specs.Limits.{Bounds, every_number, bounds_behind, brackets_with, brackets_with_sign, opens_bracket, is_too_long, is_outside, limit_of, limit_here, IsWithinLimits}
 
 -- this token passes no limit behind so many tokens and open brackets
 pub record Passes (count opened : ℕ) (b : Bounds) (t : Token) : Type 0 where
   pub tokens : nat_lt 8191 count ≡ false
-  pub depth : (nat_lt 31 opened && is_opening t) ≡ false
+  pub depth : (nat_lt 31 opened && opens_bracket t) ≡ false
   pub literal : is_too_long t ≡ false
   pub number : is_outside b t ≡ false
 
@@ -47,7 +47,7 @@ none_chosen false false false false e = record { first = refl; second = refl; th
 
 passes : (count opened : ℕ) (b : Bounds) (t : Token) → limit_of count opened b t ≡ None → Passes count opened b t
 passes count opened b t e =
-    let f = none_chosen (nat_lt 8191 count) (nat_lt 31 opened && is_opening t) (is_too_long t) (is_outside b t) e in
+    let f = none_chosen (nat_lt 8191 count) (nat_lt 31 opened && opens_bracket t) (is_too_long t) (is_outside b t) e in
     record { tokens = f.first; depth = f.second; literal = f.third; number = f.fourth }
 
 no_limit : (count opened : ℕ) (b : Bounds) (t : Token) → Passes count opened b t → limit_of count opened b t ≡ None
@@ -112,12 +112,12 @@ no_deeper most m n opens e h = also_false (nat_lt most n) (nat_lt most m) opens 
 pub fewer_passes : (c c' o o' : ℕ) (b : Bounds) (t : Token) → c' ≤ c → o' ≤ o → Passes c o b t → Passes c' o' b t
 fewer_passes c c' o o' b t h k p = record {
   tokens = no_more 8191 c' c p.tokens h;
-  depth = no_deeper 31 o' o (is_opening t) p.depth k;
+  depth = no_deeper 31 o' o (opens_bracket t) p.depth k;
   literal = p.literal;
   number = p.number;
 }
 
-fewer_signed : (o o' : ℕ) (s : Sign) → o' ≤ o → sign_brackets o' s ≤ sign_brackets o s
+fewer_signed : (o o' : ℕ) (s : Sign) → o' ≤ o → brackets_with_sign o' s ≤ brackets_with_sign o s
 fewer_signed o o' sign.OpenBrace h = omega (arith, h)
 fewer_signed o o' sign.OpenParen h = omega (arith, h)
 fewer_signed o o' sign.OpenSquare h = omega (arith, h)

@@ -12,7 +12,7 @@ use Rattle.cd_grammar.specs.Limits.{IsWithinLimits}
 use Rattle.cd_grammar.specs.Refusals.{IsText}
 use Rattle.cd_lex.proofs.Written.{tokenizes_canonical}
 use Rattle.cd_script.specs.Ranges as ranges
-use Rattle.cd_script.proofs.Derives.{canonical_is_script}
+use Rattle.cd_script.proofs.CanonicalDerivations.{canonical_is_script}
 use Rattle.cd_script.proofs.WrittenWithin.{written_within}
 
 pub whole_range : (n : ℕ) (tree : List Stmt) → list_all ranges.statement (take n tree) ≡ true → length tree ≤ n → list_all ranges.statement tree ≡ true

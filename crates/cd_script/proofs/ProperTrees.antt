@@ -31,7 +31,7 @@ use Rattle.cd_elem.specs.declared.word.PieceTest.{PieceTest}
 use Rattle.cd_grammar.specs.WordTrees as tree
 use Rattle.cd_grammar.specs.Grammar as g
 use Rattle.cd_grammar.specs.Canonical.{is_proper, proper_step, is_proper_word, is_proper_statement, is_name, has_one, has_two}
-use Rattle.cd_script.proofs.LighterTrees.{some_mapped, some_parts, some_wholes}
+use Rattle.cd_script.proofs.WithinLimitsTrees.{some_mapped, some_parts, some_wholes}
 use Rattle.cd_script.proofs.TextNames.{has_name, HaveNames, both_true}
 
 each_true : (a b : Bool) → (a && b) ≡ true → (a ≡ true) × (b ≡ true)
@@ -59,7 +59,7 @@ literal_word : (w : LiteralWord) (s : List ℕ) → is_proper_word (tree.literal
 literal_word literal.Bytes s = refl
 literal_word _ s = refl
 
-file_word : (w : FileWord) (f : g.File) → is_proper_word (tree.file_word w (g.file_text f)) ≡ true
+file_word : (w : FileWord) (f : g.FileName) → is_proper_word (tree.file_word w (g.file_name_text f)) ≡ true
 file_word file.SourceFile f = refl
 file_word file.SinkFile f = refl
 
@@ -120,7 +120,7 @@ block_form : (b : g.BlockForm) (p : Pipe) → is_proper p ≡ true → is_proper
 block_form (g.Counts section.Exactly n) p h = ap is_proper (sym (pipe.rolls-Exactly (tree.number_of n) p)) ∙ proper-roll _ ∙ h
 block_form (g.Counts section.ExactlyE n) p h = ap is_proper (sym (pipe.rolls-ExactlyE (tree.number_of n) p)) ∙ proper-roll _ ∙ h
 block_form g.LineE p h = ap is_proper (sym (pipe.rolls-LineE p)) ∙ proper-roll _ ∙ h
-block_form (g.Mark f) p h = ap is_proper (sym (pipe.rolls-Mark (g.file_text f) p)) ∙ proper-roll _ ∙ h
+block_form (g.Mark f) p h = ap is_proper (sym (pipe.rolls-Mark (g.file_name_text f) p)) ∙ proper-roll _ ∙ h
 
 zip_source_form : (p q : Pipe) (s : List ℕ) → is_proper p ≡ true → is_proper q ≡ true → is_proper (pipe.ZipSource p q s) ≡ true
 zip_source_form p q s h k = ap is_proper (sym (pipe.rolls-ZipSource p q s)) ∙ proper-roll _ ∙ both_true (is_proper p) (is_proper q) h k
@@ -132,43 +132,43 @@ zip_conduit_form : (p q : Pipe) → is_proper p ≡ true → is_proper q ≡ tru
 zip_conduit_form p q h k = ap is_proper (sym (pipe.rolls-ZipConduit p q)) ∙ proper-roll _ ∙ both_true (is_proper p) (is_proper q) h k
 
 mutual
-  part : (p : g.Part) → is_proper (g.part_tree p) ≡ true
+  part : (p : g.PartForm) → is_proper (g.part_tree p) ≡ true
   part (g.OfWord w) = ap is_proper (sym (pipe.rolls-Word (g.word_tree w))) ∙ proper-roll _ ∙ word_form w
   part (g.Parens p) = whole p
-  part (g.Braces ps) = sequence_form (g.wholes_trees ps) (some_wholes ps) (wholes ps)
-  part (g.Block b p) = block_form b (g.whole_tree p) (whole p)
-  part (g.Tee p) = ap is_proper (sym (pipe.rolls-Tee (g.whole_tree p))) ∙ proper-roll _ ∙ whole p
-  part (g.ZipSource p q s) = zip_source_form (g.whole_tree p) (g.whole_tree q) s (whole p) (whole q)
-  part (g.ZipSink p q) = zip_sink_form (g.whole_tree p) (g.whole_tree q) (whole p) (whole q)
-  part (g.ZipConduit p q) = zip_conduit_form (g.whole_tree p) (g.whole_tree q) (whole p) (whole q)
+  part (g.Braces ps) = sequence_form (g.pipes_trees ps) (some_wholes ps) (wholes ps)
+  part (g.Block b p) = block_form b (g.pipe_tree p) (whole p)
+  part (g.Tee p) = ap is_proper (sym (pipe.rolls-Tee (g.pipe_tree p))) ∙ proper-roll _ ∙ whole p
+  part (g.ZipSource p q s) = zip_source_form (g.pipe_tree p) (g.pipe_tree q) s (whole p) (whole q)
+  part (g.ZipSink p q) = zip_sink_form (g.pipe_tree p) (g.pipe_tree q) (whole p) (whole q)
+  part (g.ZipConduit p q) = zip_conduit_form (g.pipe_tree p) (g.pipe_tree q) (whole p) (whole q)
 
-  whole : (p : g.Whole) → is_proper (g.whole_tree p) ≡ true
+  whole : (p : g.PipeForm) → is_proper (g.pipe_tree p) ≡ true
   whole (g.One p) = part p
   whole (g.Chain j ps p) = chain_form j (g.parts_trees ps) (g.part_tree p) (some_parts ps) (parts ps) (part p)
 
-  parts : (ps : g.Parts) → AllProper (g.parts_trees ps)
+  parts : (ps : g.PartsForm) → AllProper (g.parts_trees ps)
   parts (g.First p) = both_true (is_proper (g.part_tree p)) true (part p) refl
   parts (g.Then ps p) = more_proper (g.parts_trees ps) (g.part_tree p) (parts ps) (part p)
 
-  wholes : (ps : g.Wholes) → AllProper (g.wholes_trees ps)
-  wholes (g.Only p) = both_true (is_proper (g.whole_tree p)) true (whole p) refl
-  wholes (g.And ps p) = more_proper (g.wholes_trees ps) (g.whole_tree p) (wholes ps) (whole p)
+  wholes : (ps : g.PipesForm) → AllProper (g.pipes_trees ps)
+  wholes (g.Only p) = both_true (is_proper (g.pipe_tree p)) true (whole p) refl
+  wholes (g.And ps p) = more_proper (g.pipes_trees ps) (g.pipe_tree p) (wholes ps) (whole p)
 
 -- Statements and scripts.
-sentence : (s : g.Sentence) → HaveNames (g.sentence_tokens s) → is_proper_statement (g.sentence_tree s) ≡ true
+sentence : (s : g.StatementForm) → HaveNames (g.statement_tokens s) → is_proper_statement (g.statement_tree s) ≡ true
 sentence (g.Run p) h = whole p
-sentence (g.Seal n p) h = both_true (is_name n) (is_proper (g.whole_tree p)) (each_true (is_name n) _ h).0 (whole p)
-sentence (g.Feed n p) h = both_true (is_name n) (is_proper (g.whole_tree p)) (each_true (is_name n) _ h).0 (whole p)
-sentence (g.CloseSeal n p) h = both_true (is_name n) (is_proper (g.whole_tree p)) (each_true (is_name n) _ h).0 (whole p)
+sentence (g.Seal n p) h = both_true (is_name n) (is_proper (g.pipe_tree p)) (each_true (is_name n) _ h).0 (whole p)
+sentence (g.Feed n p) h = both_true (is_name n) (is_proper (g.pipe_tree p)) (each_true (is_name n) _ h).0 (whole p)
+sentence (g.CloseSeal n p) h = both_true (is_name n) (is_proper (g.pipe_tree p)) (each_true (is_name n) _ h).0 (whole p)
 sentence (g.Hold n f) h = both_true (is_name n) true (each_true (is_name n) _ h).0 refl
 sentence (g.Release n) h = (each_true (is_name n) _ h).0
 
-script : (ss : List g.Sentence) → HaveNames (g.script_tokens ss) → list_all is_proper_statement (g.script_tree ss) ≡ true
+script : (ss : List g.StatementForm) → HaveNames (g.script_tokens ss) → list_all is_proper_statement (g.script_tree ss) ≡ true
 script [] h = refl
 script (s ∷ ss) h =
-    let e = each_true (list_all has_name (g.script_tokens ss)) (list_all has_name (g.sentence_tokens s)) (sym (list_all-append has_name (g.script_tokens ss) (g.sentence_tokens s)) ∙ h) in
-    list_all-append is_proper_statement (g.script_tree ss) (g.sentence_tree s ∷ [])
-    ∙ both_true _ _ (script ss e.0) (both_true (is_proper_statement (g.sentence_tree s)) true (sentence s e.1) refl)
+    let e = each_true (list_all has_name (g.script_tokens ss)) (list_all has_name (g.statement_tokens s)) (sym (list_all-append has_name (g.script_tokens ss) (g.statement_tokens s)) ∙ h) in
+    list_all-append is_proper_statement (g.script_tree ss) (g.statement_tree s ∷ [])
+    ∙ both_true _ _ (script ss e.0) (both_true (is_proper_statement (g.statement_tree s)) true (sentence s e.1) refl)
 
 pub is_proper_script : (ts : List Token) (ss : List Stmt) → g.IsScript ts ss → HaveNames ts → list_all is_proper_statement ss ≡ true
 is_proper_script ts ss s h =

@@ -4,7 +4,7 @@ use Rattle.cd_elem.specs.declared.script.Stmt.{Stmt}
 use Rattle.cd_grammar.specs.Canonical.{IsTreeWithin}
 use Rattle.cd_grammar.specs.Refusals.{tokens, IsText}
 use Rattle.cd_script.specs.Answers.{Answer, Parses}
-use Rattle.cd_script.proofs.LighterTrees.{canonical_within}
+use Rattle.cd_script.proofs.WithinLimitsTrees.{canonical_within}
 use Rattle.cd_script.proofs.ProperTrees.{is_proper_script}
 use Rattle.cd_script.proofs.TextNames.{tokens_have_names}
 

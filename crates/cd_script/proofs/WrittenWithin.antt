@@ -46,51 +46,51 @@ use Rattle.cd_elem.specs.declared.word.ByteMap.{ByteMap}
 use Rattle.cd_elem.specs.declared.word.ByteMap.TheVariants as byte_map
 use Rattle.cd_elem.specs.declared.word.PieceMap.{PieceMap}
 use Rattle.cd_elem.specs.declared.word.PieceMap.TheVariants as piece_map
-use Rattle.cd_grammar.specs.Canonical.{Piece, piece, piece_step, wrapped, pair, ended, statement_tokens, canonical, is_proper, is_proper_statement, is_file, is_name, names, IsTreeWithin}
-use Rattle.cd_grammar.specs.CanonicalWords.{class_name_tokens, class_tokens, test_name_tokens, test_tokens, element_map_tokens, piece_map_tokens, behind_each, separated, texts_tokens, list_tokens, elem_tokens, piece_tokens, split_tokens, text_tokens, base_tokens, source_tokens, sink_tokens, word_tokens}
+use Rattle.cd_grammar.specs.Canonical.{PipeTokens, canonical_pipe, canonical_step, wrapped, pair, with_semicolon, canonical_statement, canonical, is_proper, is_proper_statement, is_file, is_name, is_named, IsTreeWithin}
+use Rattle.cd_grammar.specs.CanonicalWords.{canonical_class_name, canonical_class, canonical_test_name, canonical_test, canonical_element_map, canonical_piece_map, behind_each, separated, canonical_texts, canonical_list, canonical_elem, canonical_piece, canonical_split, canonical_text, canonical_base, canonical_source, canonical_sink, canonical_word}
 use Rattle.cd_grammar.specs.Grammar.{not_tokens, operator}
 use Rattle.cd_grammar.specs.Limits.{Bounds, every_number, bounds_behind, brackets_with, counted_bounds, keyword_bounds, is_outside}
-use Rattle.cd_grammar.specs.Literals.{inside}
+use Rattle.cd_grammar.specs.Literals.{literal_value}
 use Rattle.cd_grammar.specs.Reserved.{reserved}
-use Rattle.cd_grammar.specs.Tokens.{whole_token, whole_sign, named, number, quoted, signed, is_empty}
+use Rattle.cd_grammar.specs.Tokens.{whole_token, whole_sign, name_or_keyword, number_value, text_token, sign_token, is_empty}
 use Rattle.cd_lex.proofs.Utf8.{both}
 use Rattle.cd_lex.proofs.Written.{CanBeWritten, AllWritten, written}
 use Rattle.cd_script.proofs.LimitWalk.{Fits, walks}
 use Rattle.cd_script.proofs.TextNames.{has_name, HaveNames, both_true}
 
 -- Names.
-named_itself : (r : Option Keyword) (text : List ℕ) → names (Some (named text r)) ≡ true → Some (named text r) ≡ Some (token.Named text)
+named_itself : (r : Option Keyword) (text : List ℕ) → is_named (Some (name_or_keyword text r)) ≡ true → Some (name_or_keyword text r) ≡ Some (token.Named text)
 named_itself None text e = refl
 named_itself (Some k) text e = let f : ⊥ = cc in absurd f
 
-identifier : (all : Bool) (r : Option Keyword) (text : List ℕ) → names (if all then Some (named text r) else None) ≡ true
-    → (if all then Some (named text r) else None) ≡ Some (token.Named text)
+identifier : (all : Bool) (r : Option Keyword) (text : List ℕ) → is_named (if all then Some (name_or_keyword text r) else None) ≡ true
+    → (if all then Some (name_or_keyword text r) else None) ≡ Some (token.Named text)
 identifier true r text e = named_itself r text e
 identifier false r text e = let f : ⊥ = cc in absurd f
 
-no_number : (all : Bool) (value : Option ℕ) → names (if all then Some (token.Number value) else None) ≡ true → ⊥
+no_number : (all : Bool) (value : Option ℕ) → is_named (if all then Some (token.Number value) else None) ≡ true → ⊥
 no_number true value e = cc
 no_number false value e = cc
 
-no_text : (value : Option (List ℕ)) → names (quoted value) ≡ true → ⊥
+no_text : (value : Option (List ℕ)) → is_named (text_token value) ≡ true → ⊥
 no_text None e = cc
 no_text (Some s) e = cc
 
-no_sign : (s : Option Sign) → names (signed s) ≡ true → ⊥
+no_sign : (s : Option Sign) → is_named (sign_token s) ≡ true → ⊥
 no_sign None e = cc
 no_sign (Some s) e = cc
 
 abbrev judged : Bool → Bool → Bool → Bool → Bool → Bool → Bool → Option Keyword → Option ℕ → Option (List ℕ) → Option Sign → List ℕ → Option Token
 judged letter zero digit quote all_letters alone all_digits r value literal s text =
-    if letter then (if all_letters then Some (named text r) else None)
+    if letter then (if all_letters then Some (name_or_keyword text r) else None)
     else (if zero then (if alone then Some (token.Number (Some 0)) else None)
     else (if digit then (if all_digits then Some (token.Number value) else None)
-    else (if quote then quoted literal
-    else signed s)))
+    else (if quote then text_token literal
+    else sign_token s)))
 
 -- which test of a text's first byte holds
 first_byte : (letter zero digit quote all_letters alone all_digits : Bool) (r : Option Keyword) (value : Option ℕ) (literal : Option (List ℕ)) (s : Option Sign) (text : List ℕ)
-    → names (judged letter zero digit quote all_letters alone all_digits r value literal s text) ≡ true
+    → is_named (judged letter zero digit quote all_letters alone all_digits r value literal s text) ≡ true
     → judged letter zero digit quote all_letters alone all_digits r value literal s text ≡ Some (token.Named text)
 first_byte true zero digit quote all_letters alone all_digits r value literal s text e = identifier all_letters r text e
 first_byte false true digit quote all_letters alone all_digits r value literal s text e = absurd (no_number alone (Some 0) e)
@@ -103,7 +103,7 @@ name_is_whole : (n : List ℕ) → is_name n ≡ true → whole_token n ≡ Some
 name_is_whole [] e = let f : ⊥ = cc in absurd f
 name_is_whole (c ∷ cs) e =
     first_byte (is_ascii_alphabetic c) (c == 48) (is_ascii_digit c) (c == 34) (list_all is_ascii_alphanumeric cs) (is_empty cs) (list_all is_ascii_digit cs)
-    (reserved (c ∷ cs)) (number (c ∷ cs)) (inside cs) (whole_sign (c ∷ cs)) (c ∷ cs) e
+    (reserved (c ∷ cs)) (number_value (c ∷ cs)) (literal_value cs) (whole_sign (c ∷ cs)) (c ∷ cs) e
 
 -- Numbers.
 abbrev Below : Bounds → Type 0
@@ -166,25 +166,25 @@ negation : (negated : Bool) (xs : List Token) → HaveNames xs → HaveNames (no
 negation true xs h = h
 negation false xs h = h
 
-class_name_names : (c : ClassName) → HaveNames (class_name_tokens c)
+class_name_names : (c : ClassName) → HaveNames (canonical_class_name c)
 class_name_names class_name.Digit = refl
 class_name_names _ = refl
 
-class_names : (c : Class) → HaveNames (class_tokens c)
-class_names c = negation c.negated (class_name_tokens c.what) (class_name_names c.what)
+class_names : (c : Class) → HaveNames (canonical_class c)
+class_names c = negation c.negated (canonical_class_name c.what) (class_name_names c.what)
 
-test_name_names : (t : TestName) → HaveNames (test_name_tokens t)
+test_name_names : (t : TestName) → HaveNames (canonical_test_name t)
 test_name_names test_name.Empty = refl
 test_name_names _ = refl
 
-test_names : (t : PieceTest) → HaveNames (test_tokens t)
-test_names t = negation t.negated (test_name_tokens t.what) (test_name_names t.what)
+test_names : (t : PieceTest) → HaveNames (canonical_test t)
+test_names t = negation t.negated (canonical_test_name t.what) (test_name_names t.what)
 
-element_map_names : (m : ByteMap) → HaveNames (element_map_tokens m)
+element_map_names : (m : ByteMap) → HaveNames (canonical_element_map m)
 element_map_names byte_map.Rot13 = refl
 element_map_names _ = refl
 
-piece_map_names : (m : PieceMap) → HaveNames (piece_map_tokens m)
+piece_map_names : (m : PieceMap) → HaveNames (canonical_piece_map m)
 piece_map_names piece_map.Reverse = refl
 piece_map_names _ = refl
 
@@ -200,14 +200,14 @@ separated_names : (s : Sign) (xs : List (List Token)) → EachHasNames xs → Ha
 separated_names s [] h = refl
 separated_names s (x ∷ xs) h = append_names x (behind_each (token.Sign s) xs) h.0 (behind_each_names s xs h.1)
 
-texts_names : (ss : List (List ℕ)) → EachHasNames (texts_tokens ss)
+texts_names : (ss : List (List ℕ)) → EachHasNames (canonical_texts ss)
 texts_names [] = tt
 texts_names (s ∷ ss) = (refl, texts_names ss)
 
-list_names : (ss : List (List ℕ)) → HaveNames (list_tokens ss)
-list_names ss = append_names (separated (token.Sign sign.Comma) (texts_tokens ss)) (token.Sign sign.CloseSquare ∷ []) (separated_names sign.Comma (texts_tokens ss) (texts_names ss)) refl
+list_names : (ss : List (List ℕ)) → HaveNames (canonical_list ss)
+list_names ss = append_names (separated (token.Sign sign.Comma) (canonical_texts ss)) (token.Sign sign.CloseSquare ∷ []) (separated_names sign.Comma (canonical_texts ss) (texts_names ss)) refl
 
-elem_names : (w : ElemWord) → HaveNames (elem_tokens w)
+elem_names : (w : ElemWord) → HaveNames (canonical_elem w)
 elem_names (elem.TakeWhileE c) = class_names c
 elem_names (elem.FilterE c) = class_names c
 elem_names (elem.DropWhileE c) = class_names c
@@ -216,35 +216,35 @@ elem_names (elem.AnyE c) = class_names c
 elem_names (elem.MapE m) = element_map_names m
 elem_names _ = refl
 
-piece_names : (w : PieceWord) → HaveNames (piece_tokens w)
+piece_names : (w : PieceWord) → HaveNames (canonical_piece w)
 piece_names (piece_word.TakeWhile t) = test_names t
 piece_names (piece_word.Filter t) = test_names t
 piece_names (piece_word.DropWhile t) = test_names t
 piece_names (piece_word.Map m) = piece_map_names m
 piece_names _ = refl
 
-split_names : (w : SplitWord) → HaveNames (split_tokens w)
+split_names : (w : SplitWord) → HaveNames (canonical_split w)
 split_names split.Flat = refl
 split_names _ = refl
 
-text_names : (w : TextWord) → HaveNames (text_tokens w)
+text_names : (w : TextWord) → HaveNames (canonical_text w)
 text_names text.Utf8 = refl
 text_names _ = refl
 
-base_names : (w : BaseWord) → HaveNames (base_tokens w)
+base_names : (w : BaseWord) → HaveNames (canonical_base w)
 base_names base.HexEncode = refl
 base_names _ = refl
 
-source_names : (w : SourceWord) → HaveNames (source_tokens w)
+source_names : (w : SourceWord) → HaveNames (canonical_source w)
 source_names (source.Blocks ss) = list_names ss
 source_names (source.Texts ss) = list_names ss
 source_names _ = refl
 
-sink_names : (w : SinkWord) → HaveNames (sink_tokens w)
+sink_names : (w : SinkWord) → HaveNames (canonical_sink w)
 sink_names sink.Stdout = refl
 sink_names _ = refl
 
-word_names : (w : Word) → HaveNames (word_tokens w)
+word_names : (w : Word) → HaveNames (canonical_word w)
 word_names (word.Elem w) = elem_names w
 word_names (word.Piece w) = piece_names w
 word_names (word.Split w) = split_names w
@@ -255,7 +255,7 @@ word_names (word.Sink w) = sink_names w
 
 -- Pipes.
 abbrev P : Pipe → Type 0
-P p = HaveNames (piece p).tokens
+P p = HaveNames (canonical_pipe p).tokens
 
 abbrev Part : Type 0
 Part = (p : Pipe) × P p
@@ -264,9 +264,9 @@ abbrev first_of : Part → Pipe
 first_of e = e.0
 
 -- at a node, the tokens are those of its parts
-at_node : (x : Pipe-F Pipe) → HaveNames (piece_step (map-Pipe Pipe Piece piece x)).tokens → P (roll-Pipe x)
-unfolding piece
-at_node x h = subst (λ (q : Piece). HaveNames q.tokens) (sym (fold-roll-Pipe Piece piece_step x)) h
+at_node : (x : Pipe-F Pipe) → HaveNames (canonical_step (map-Pipe Pipe PipeTokens canonical_pipe x)).tokens → P (roll-Pipe x)
+unfolding canonical_pipe
+at_node x h = subst (λ (q : PipeTokens). HaveNames q.tokens) (sym (fold-roll-Pipe PipeTokens canonical_step x)) h
 
 bracketed_names : (closing : Sign) (xs : List Token) → HaveNames xs → HaveNames (xs ++ token.Sign closing ∷ [])
 bracketed_names closing xs h = append_names xs (token.Sign closing ∷ []) h refl
@@ -275,31 +275,31 @@ wrapped_names : (chain : Bool) (xs : List Token) → HaveNames xs → HaveNames 
 wrapped_names true xs h = bracketed_names sign.CloseParen xs h
 wrapped_names false xs h = h
 
-members_names : (parts : List Part) → EachHasNames (map wrapped (map piece (map first_of parts)))
+members_names : (parts : List Part) → EachHasNames (map wrapped (map canonical_pipe (map first_of parts)))
 members_names [] = tt
-members_names (e ∷ parts) = (wrapped_names (piece e.0).is_chain (piece e.0).tokens e.1, members_names parts)
+members_names (e ∷ parts) = (wrapped_names (canonical_pipe e.0).is_chain (canonical_pipe e.0).tokens e.1, members_names parts)
 
-parts_names : (parts : List Part) → EachHasNames (map (λ q. q.tokens) (map piece (map first_of parts)))
+parts_names : (parts : List Part) → EachHasNames (map (λ q. q.tokens) (map canonical_pipe (map first_of parts)))
 parts_names [] = tt
 parts_names (e ∷ parts) = (e.1, parts_names parts)
 
 abbrev tokens_of : Part → List Token
-tokens_of e = (piece e.0).tokens
+tokens_of e = (canonical_pipe e.0).tokens
 
 part_names : (closing : Sign) (e : Part) → HaveNames (tokens_of e ++ token.Sign closing ∷ [])
 part_names closing e = bracketed_names closing (tokens_of e) e.1
 
 abbrev both_tokens : Part → Part → List Token
-both_tokens e f = pair (piece e.0) (piece f.0)
+both_tokens e f = pair (canonical_pipe e.0) (canonical_pipe f.0)
 
 both_names : (e f : Part) → HaveNames (both_tokens e f)
 both_names e f = append_names (tokens_of e) (token.Sign sign.Comma ∷ tokens_of f) e.1 f.1
 
 each : (y : Pipe-F Part) → P (roll-Pipe (map-Pipe Part Pipe first_of y))
 each (Pipe-F.Word w) = at_node (Pipe-F.Word w) (word_names w)
-each (Pipe-F.Chain join parts) = at_node (Pipe-F.Chain join (map first_of parts)) (separated_names (sign.Operator join) (map wrapped (map piece (map first_of parts))) (members_names parts))
+each (Pipe-F.Chain join parts) = at_node (Pipe-F.Chain join (map first_of parts)) (separated_names (sign.Operator join) (map wrapped (map canonical_pipe (map first_of parts))) (members_names parts))
 each (Pipe-F.Sequence parts) =
-    let xs : List (List Token) = map (λ q. q.tokens) (map piece (map first_of parts)) in
+    let xs : List (List Token) = map (λ q. q.tokens) (map canonical_pipe (map first_of parts)) in
     at_node (Pipe-F.Sequence (map first_of parts)) (bracketed_names sign.CloseBrace (separated (token.Sign sign.Semicolon) xs) (separated_names sign.Semicolon xs (parts_names parts)))
 each (Pipe-F.Exactly n a) = at_node (Pipe-F.Exactly n a.0) (part_names sign.CloseBrace a)
 each (Pipe-F.ExactlyE n a) = at_node (Pipe-F.ExactlyE n a.0) (part_names sign.CloseBrace a)
@@ -316,18 +316,18 @@ each (Pipe-F.ZipConduit a b) = at_node (Pipe-F.ZipConduit a.0 b.0) (bracketed_na
 pipe_names : (p : Pipe) → P p
 pipe_names = ind-Pipe P (λ x y is. subst (λ z. P (roll-Pipe z)) is (each y))
 
-ended_names : (p : Pipe) → HaveNames (ended p)
-ended_names p = bracketed_names sign.Semicolon (piece p).tokens (pipe_names p)
+ended_names : (p : Pipe) → HaveNames (with_semicolon p)
+ended_names p = bracketed_names sign.Semicolon (canonical_pipe p).tokens (pipe_names p)
 
 -- Statements and scripts.
 behind_name : (n : List ℕ) (ts : List Token) → is_name n ≡ true → HaveNames ts → HaveNames (token.Named n ∷ ts)
 behind_name n ts e h = both_true (is_name n) (list_all has_name ts) e h
 
-statement_names : (s : Stmt) → is_proper_statement s ≡ true → HaveNames (statement_tokens s)
+statement_names : (s : Stmt) → is_proper_statement s ≡ true → HaveNames (canonical_statement s)
 statement_names (stmt.Run p) e = ended_names p
-statement_names (stmt.Seal n p) e = behind_name n (token.Sign sign.Equals ∷ token.Word keyword.Seal ∷ ended p) (both (is_name n) (is_proper p) e).0 (ended_names p)
-statement_names (stmt.Feed n p) e = behind_name n (operator join.Plain ∷ ended p) (both (is_name n) (is_proper p) e).0 (ended_names p)
-statement_names (stmt.CloseSeal n p) e = behind_name n (operator join.Plain ∷ ended p) (both (is_name n) (is_proper p) e).0 (ended_names p)
+statement_names (stmt.Seal n p) e = behind_name n (token.Sign sign.Equals ∷ token.Word keyword.Seal ∷ with_semicolon p) (both (is_name n) (is_proper p) e).0 (ended_names p)
+statement_names (stmt.Feed n p) e = behind_name n (operator join.Plain ∷ with_semicolon p) (both (is_name n) (is_proper p) e).0 (ended_names p)
+statement_names (stmt.CloseSeal n p) e = behind_name n (operator join.Plain ∷ with_semicolon p) (both (is_name n) (is_proper p) e).0 (ended_names p)
 statement_names (stmt.Hold n s) e =
     behind_name n (token.Sign sign.Equals ∷ token.Word keyword.Mark ∷ token.Text s ∷ token.Sign sign.Semicolon ∷ []) (both (is_name n) (is_file s) e).0 refl
 statement_names (stmt.Release n) e = behind_name n (token.Sign sign.Semicolon ∷ []) e refl
@@ -336,7 +336,7 @@ tree_names : (tree : List Stmt) → list_all is_proper_statement tree ≡ true �
 tree_names [] e = refl
 tree_names (s ∷ tree) e =
     let k = both (is_proper_statement s) (list_all is_proper_statement tree) e in
-    append_names (statement_tokens s) (canonical tree) (statement_names s k.0) (tree_names tree k.1)
+    append_names (canonical_statement s) (canonical tree) (statement_names s k.0) (tree_names tree k.1)
 
 pub written_within : (tree : List Stmt) → IsTreeWithin tree → AllWritten (canonical tree)
 written_within tree w = all_written 0 0 every_number (canonical tree) refl (walks (canonical tree) w.within) (tree_names tree w.proper)

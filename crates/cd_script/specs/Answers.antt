@@ -12,11 +12,11 @@ abbrev pub Answer : Type 0
 Answer = Result (List Stmt) ScriptRefusal
 
 -- The answer for tokens that go on to the whole text's end, or to a place `end` where no token begins.
-abbrev pub Answers : List Lexeme → Bool → ℕ → Answer → Type 0
-Answers ls whole end (Ok tree) = (whole ≡ true) × IsScript (tokens ls) tree × IsWithinLimits (tokens ls)
-Answers ls whole end (Err (Syntax at)) = Refuses ls at ⊎ EndsEarly ls whole end at
-Answers ls whole end (Err (Limit which at)) = PassesLimit ls which at
-Answers ls whole end (Err NoMemory) = Unit {0}
+abbrev pub AnswersTokens : List Lexeme → Bool → ℕ → Answer → Type 0
+AnswersTokens ls whole end (Ok tree) = (whole ≡ true) × IsScript (tokens ls) tree × IsWithinLimits (tokens ls)
+AnswersTokens ls whole end (Err (Syntax at)) = Refuses ls at ⊎ EndsEarly ls whole end at
+AnswersTokens ls whole end (Err (Limit which at)) = PassesLimit ls which at
+AnswersTokens ls whole end (Err NoMemory) = Unit {0}
 
 -- the answer for a text: its tree, or its first refused token
 abbrev pub Parses : List ℕ → Answer → Type 0
@@ -26,8 +26,8 @@ Parses text (Err (Limit which at)) = IsLimitAt text which at
 Parses text (Err NoMemory) = Unit {0}
 
 -- only this tree is answered, unless memory runs out
-abbrev pub Gives : List Stmt → Answer → Type 0
-Gives tree (Ok other) = other ≡ tree
-Gives tree (Err (Syntax at)) = ⊥
-Gives tree (Err (Limit which at)) = ⊥
-Gives tree (Err NoMemory) = Unit {0}
+abbrev pub AnswersOnly : List Stmt → Answer → Type 0
+AnswersOnly tree (Ok other) = other ≡ tree
+AnswersOnly tree (Err (Syntax at)) = ⊥
+AnswersOnly tree (Err (Limit which at)) = ⊥
+AnswersOnly tree (Err NoMemory) = Unit {0}

@@ -1,3 +1,3 @@
 pub mod Answers
 pub mod Ranges
-pub mod Reading
+pub mod Reader

@@ -16,9 +16,9 @@ use std::alloc::Global;
 
 /// Adds the tokens of a pipe.
 #[cycle(canonical)]
-#[tactic(auto, using(crate::proofs::Using::pieces))]
+#[tactic(auto, using(crate::proofs::Tactics::pieces))]
 fn put_pipe(alloc: Global, out: &mut Items<Token>, pipe: &Pipe) -> Result<(), NoMemory>
-    ensures tokens { OnOk result (out.new ≡ out.old ++ (spec.piece pipe.now).tokens) }
+    ensures tokens { OnOk result (out.new ≡ out.old ++ (spec.canonical_pipe pipe.now).tokens) }
     ensures range { OnOk result (ranges.is_in_range pipe.now ≡ true) }
 {
     match pipe {
@@ -60,7 +60,7 @@ fn put_pipe(alloc: Global, out: &mut Items<Token>, pipe: &Pipe) -> Result<(), No
 /// Adds a pipe and the sign behind it.
 #[cycle(canonical)]
 fn put_until(alloc: Global, out: &mut Items<Token>, pipe: &Pipe, sign: Sign) -> Result<(), NoMemory>
-    ensures tokens { OnOk result (out.new ≡ out.old ++ (spec.piece pipe.now).tokens ++ Token.Sign sign ∷ []) }
+    ensures tokens { OnOk result (out.new ≡ out.old ++ (spec.canonical_pipe pipe.now).tokens ++ Token.Sign sign ∷ []) }
     ensures range { OnOk result (ranges.is_in_range pipe.now ≡ true) }
 {
     put_pipe(alloc, out, pipe)?;
@@ -70,7 +70,7 @@ fn put_until(alloc: Global, out: &mut Items<Token>, pipe: &Pipe, sign: Sign) -> 
 /// Adds a pipe in braces.
 #[cycle(canonical)]
 fn put_block(alloc: Global, out: &mut Items<Token>, pipe: &Pipe) -> Result<(), NoMemory>
-    ensures tokens { OnOk result (out.new ≡ out.old ++ spec.braced (spec.piece pipe.now).tokens) }
+    ensures tokens { OnOk result (out.new ≡ out.old ++ spec.braced (spec.canonical_pipe pipe.now).tokens) }
     ensures range { OnOk result (ranges.is_in_range pipe.now ≡ true) }
 {
     put_sign(out, Sign::OpenBrace)?;
@@ -87,7 +87,7 @@ fn put_section(
     pipe: &Pipe,
 ) -> Result<(), NoMemory>
     ensures tokens { OnOk result (out.new ≡ out.old ++ Token.Word (Keyword.Section section) ∷ Token.Number (Some number)
-        ∷ spec.braced (spec.piece pipe.now).tokens) }
+        ∷ spec.braced (spec.canonical_pipe pipe.now).tokens) }
     ensures range { OnOk result (ranges.is_in_range pipe.now ≡ true) }
 {
     put_with_number(out, Keyword::Section(section), number)?;
@@ -98,7 +98,7 @@ fn put_section(
 #[cycle(canonical)]
 fn put_first(alloc: Global, out: &mut Items<Token>, zip: Zip, pipe: &Pipe) -> Result<(), NoMemory>
     ensures tokens { OnOk result (out.new ≡ out.old ++ Token.Word (Keyword.Zip zip) ∷ Token.Sign Sign.OpenParen
-        ∷ (spec.piece pipe.now).tokens ++ Token.Sign Sign.Comma ∷ []) }
+        ∷ (spec.canonical_pipe pipe.now).tokens ++ Token.Sign Sign.Comma ∷ []) }
     ensures range { OnOk result (ranges.is_in_range pipe.now ≡ true) }
 {
     put_keyword(out, Keyword::Zip(zip))?;
@@ -108,9 +108,9 @@ fn put_first(alloc: Global, out: &mut Items<Token>, zip: Zip, pipe: &Pipe) -> Re
 
 /// Adds a member of a chain, in parentheses where it is a chain itself.
 #[cycle(canonical)]
-#[tactic(auto, using(crate::proofs::Using::members))]
+#[tactic(auto, using(crate::proofs::Tactics::members))]
 fn put_member(alloc: Global, out: &mut Items<Token>, pipe: &Pipe) -> Result<(), NoMemory>
-    ensures tokens { OnOk result (out.new ≡ out.old ++ spec.wrapped (spec.piece pipe.now)) }
+    ensures tokens { OnOk result (out.new ≡ out.old ++ spec.wrapped (spec.canonical_pipe pipe.now)) }
     ensures range { OnOk result (ranges.is_in_range pipe.now ≡ true) }
 {
     match pipe {
@@ -131,7 +131,7 @@ fn put_chain(
     members: &[Pipe],
 ) -> Result<(), NoMemory>
     ensures tokens { OnOk result (out.new
-        ≡ out.old ++ separated (operator join) (map (λ p. spec.wrapped (spec.piece p)) members.now)) }
+        ≡ out.old ++ separated (operator join) (map (λ p. spec.wrapped (spec.canonical_pipe p)) members.now)) }
     ensures range { OnOk result (list_all ranges.is_in_range members.now ≡ true) }
 {
     for (place, member) in members.iter().enumerate() {
@@ -147,7 +147,7 @@ fn put_chain(
 #[cycle(canonical)]
 fn put_sequence(alloc: Global, out: &mut Items<Token>, pipes: &[Pipe]) -> Result<(), NoMemory>
     ensures tokens { OnOk result (out.new ≡ out.old
-        ++ spec.braced (separated (Token.Sign Sign.Semicolon) (map (λ p. (spec.piece p).tokens) pipes.now))) }
+        ++ spec.braced (separated (Token.Sign Sign.Semicolon) (map (λ p. (spec.canonical_pipe p).tokens) pipes.now))) }
     ensures range { OnOk result (list_all ranges.is_in_range pipes.now ≡ true) }
 {
     put_sign(out, Sign::OpenBrace)?;
@@ -186,7 +186,7 @@ fn put_file(alloc: Global, out: &mut Items<Token>, file: &Literal) -> Result<(),
 
 /// Adds a statement that gives a name to a source.
 fn put_seal(alloc: Global, out: &mut Items<Token>, name: &Name, pipe: &Pipe) -> Result<(), NoMemory>
-    ensures tokens { OnOk result (out.new ≡ out.old ++ spec.statement_tokens (Stmt.Seal name.now pipe.now)) }
+    ensures tokens { OnOk result (out.new ≡ out.old ++ spec.canonical_statement (Stmt.Seal name.now pipe.now)) }
     ensures range { OnOk result (ranges.is_in_range pipe.now ≡ true) }
 {
     put_opening(alloc, out, Opening::Let, name)?;
@@ -204,7 +204,7 @@ fn put_feeding(
     pipe: &Pipe,
 ) -> Result<(), NoMemory>
     ensures tokens { OnOk result (out.new ≡ out.old ++ Token.Word (Keyword.Opening opening) ∷ Token.Named name.now
-        ∷ operator Join.Plain ∷ (spec.piece pipe.now).tokens ++ Token.Sign Sign.Semicolon ∷ []) }
+        ∷ operator Join.Plain ∷ (spec.canonical_pipe pipe.now).tokens ++ Token.Sign Sign.Semicolon ∷ []) }
     ensures range { OnOk result (ranges.is_in_range pipe.now ≡ true) }
 {
     put_opening(alloc, out, opening, name)?;
@@ -214,7 +214,7 @@ fn put_feeding(
 
 /// Adds the tokens of a statement.
 fn put_statement(alloc: Global, out: &mut Items<Token>, statement: &Stmt) -> Result<(), NoMemory>
-    ensures tokens { OnOk result (out.new ≡ out.old ++ spec.statement_tokens statement.now) }
+    ensures tokens { OnOk result (out.new ≡ out.old ++ spec.canonical_statement statement.now) }
     ensures range { OnOk result (ranges.statement statement.now ≡ true) }
 {
     match statement {
@@ -237,8 +237,8 @@ fn put_statement(alloc: Global, out: &mut Items<Token>, statement: &Stmt) -> Res
 }
 
 /// The tokens of a statement in the canonical text.
-pub fn statement_tokens(alloc: Global, statement: &Stmt) -> Result<Items<Token>, NoMemory>
-    ensures tokens { IfOk result (λ tokens. tokens ≡ spec.statement_tokens statement.now) }
+pub fn canonical_statement(alloc: Global, statement: &Stmt) -> Result<Items<Token>, NoMemory>
+    ensures tokens { IfOk result (λ tokens. tokens ≡ spec.canonical_statement statement.now) }
     // Each character of the statement is one, and so is each byte.
     ensures range { OnOk result (ranges.statement statement.now ≡ true) }
 {

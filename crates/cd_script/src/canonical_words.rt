@@ -100,7 +100,7 @@ fn put_not(out: &mut Items<Token>, negated: bool) -> Result<(), NoMemory>
 }
 
 fn put_class_name(alloc: Global, out: &mut Items<Token>, name: ClassName) -> Result<(), NoMemory>
-    ensures tokens { OnOk result (out.new ≡ out.old ++ spec.class_name_tokens name) }
+    ensures tokens { OnOk result (out.new ≡ out.old ++ spec.canonical_class_name name) }
     ensures range { OnOk result (ranges.class_name name ≡ true) }
 {
     match name {
@@ -127,7 +127,7 @@ fn put_classed(
     class: Class,
 ) -> Result<(), NoMemory>
     ensures tokens { OnOk result (out.new
-        ≡ out.old ++ Token.Word (Keyword.Classed word) ∷ spec.class_tokens class) }
+        ≡ out.old ++ Token.Word (Keyword.Classed word) ∷ spec.canonical_class class) }
     ensures range { OnOk result (ranges.class_name class.what ≡ true) }
 {
     put_keyword(out, Keyword::Classed(word))?;
@@ -136,7 +136,7 @@ fn put_classed(
 }
 
 fn put_test_name(alloc: Global, out: &mut Items<Token>, name: &TestName) -> Result<(), NoMemory>
-    ensures { OnOk result (out.new ≡ out.old ++ spec.test_name_tokens name.now) }
+    ensures { OnOk result (out.new ≡ out.old ++ spec.canonical_test_name name.now) }
 {
     match name {
         TestName::Empty => put_keyword(out, Keyword::Empty),
@@ -158,7 +158,7 @@ fn put_tested(
     test: &PieceTest,
 ) -> Result<(), NoMemory>
     ensures { OnOk result (out.new
-        ≡ out.old ++ Token.Word (Keyword.Tested word) ∷ spec.test_tokens test.now) }
+        ≡ out.old ++ Token.Word (Keyword.Tested word) ∷ spec.canonical_test test.now) }
 {
     put_keyword(out, Keyword::Tested(word))?;
     put_not(out, test.negated)?;
@@ -167,7 +167,7 @@ fn put_tested(
 
 fn put_element_map(out: &mut Items<Token>, map: ByteMap) -> Result<(), NoMemory>
     ensures tokens { OnOk result (out.new
-        ≡ out.old ++ Token.Word Keyword.MapE ∷ spec.element_map_tokens map) }
+        ≡ out.old ++ Token.Word Keyword.MapE ∷ spec.canonical_element_map map) }
     ensures range { OnOk result (ranges.element_map map ≡ true) }
 {
     put_keyword(out, Keyword::MapE)?;
@@ -183,7 +183,7 @@ fn put_element_map(out: &mut Items<Token>, map: ByteMap) -> Result<(), NoMemory>
 }
 
 fn put_piece_map(alloc: Global, out: &mut Items<Token>, map: &PieceMap) -> Result<(), NoMemory>
-    ensures { OnOk result (out.new ≡ out.old ++ Token.Word Keyword.Map ∷ spec.piece_map_tokens map.now) }
+    ensures { OnOk result (out.new ≡ out.old ++ Token.Word Keyword.Map ∷ spec.canonical_piece_map map.now) }
 {
     put_keyword(out, Keyword::Map)?;
     match map {
@@ -196,7 +196,7 @@ fn put_piece_map(alloc: Global, out: &mut Items<Token>, map: &PieceMap) -> Resul
 /// Adds these literals, with commas between them.
 fn put_texts(alloc: Global, out: &mut Items<Token>, texts: &[Literal]) -> Result<(), NoMemory>
     ensures { OnOk result (out.new
-        ≡ out.old ++ spec.separated (Token.Sign Sign.Comma) (spec.texts_tokens texts.now)) }
+        ≡ out.old ++ spec.separated (Token.Sign Sign.Comma) (spec.canonical_texts texts.now)) }
 {
     for (place, text) in texts.iter().enumerate() {
         if place > 0 {
@@ -214,7 +214,7 @@ fn put_list(
     texts: &[Literal],
 ) -> Result<(), NoMemory>
     ensures { OnOk result (out.new
-        ≡ out.old ++ Token.Word (Keyword.List word) ∷ spec.list_tokens texts.now) }
+        ≡ out.old ++ Token.Word (Keyword.List word) ∷ spec.canonical_list texts.now) }
 {
     put_keyword(out, Keyword::List(word))?;
     put_sign(out, Sign::OpenSquare)?;
@@ -223,7 +223,7 @@ fn put_list(
 }
 
 fn put_elem(alloc: Global, out: &mut Items<Token>, word: ElemWord) -> Result<(), NoMemory>
-    ensures tokens { OnOk result (out.new ≡ out.old ++ spec.elem_tokens word) }
+    ensures tokens { OnOk result (out.new ≡ out.old ++ spec.canonical_elem word) }
     ensures range { OnOk result (ranges.elem word ≡ true) }
 {
     match word {
@@ -249,7 +249,7 @@ fn put_elem(alloc: Global, out: &mut Items<Token>, word: ElemWord) -> Result<(),
 }
 
 fn put_piece(alloc: Global, out: &mut Items<Token>, word: &PieceWord) -> Result<(), NoMemory>
-    ensures { OnOk result (out.new ≡ out.old ++ spec.piece_tokens word.now) }
+    ensures { OnOk result (out.new ≡ out.old ++ spec.canonical_piece word.now) }
 {
     match word {
         PieceWord::Pass => put_keyword(out, Keyword::Plain(PlainWord::Pass)),
@@ -273,7 +273,7 @@ fn put_piece(alloc: Global, out: &mut Items<Token>, word: &PieceWord) -> Result<
 }
 
 fn put_split(alloc: Global, out: &mut Items<Token>, word: SplitWord) -> Result<(), NoMemory>
-    ensures tokens { OnOk result (out.new ≡ out.old ++ spec.split_tokens word) }
+    ensures tokens { OnOk result (out.new ≡ out.old ++ spec.canonical_split word) }
     ensures range { OnOk result (ranges.split word ≡ true) }
 {
     match word {
@@ -291,7 +291,7 @@ fn put_split(alloc: Global, out: &mut Items<Token>, word: SplitWord) -> Result<(
 }
 
 fn text_word(word: TextWord) -> PlainWord
-    ensures { spec.text_tokens word ≡ Token.Word (Keyword.Plain result) ∷ [] }
+    ensures { spec.canonical_text word ≡ Token.Word (Keyword.Plain result) ∷ [] }
 {
     match word {
         TextWord::Utf8 => PlainWord::Utf8,
@@ -301,7 +301,7 @@ fn text_word(word: TextWord) -> PlainWord
 }
 
 fn base_word(word: BaseWord) -> PlainWord
-    ensures { spec.base_tokens word ≡ Token.Word (Keyword.Plain result) ∷ [] }
+    ensures { spec.canonical_base word ≡ Token.Word (Keyword.Plain result) ∷ [] }
 {
     match word {
         BaseWord::HexEncode => PlainWord::HexEncode,
@@ -312,7 +312,7 @@ fn base_word(word: BaseWord) -> PlainWord
 }
 
 fn put_source(alloc: Global, out: &mut Items<Token>, word: &SourceWord) -> Result<(), NoMemory>
-    ensures { OnOk result (out.new ≡ out.old ++ spec.source_tokens word.now) }
+    ensures { OnOk result (out.new ≡ out.old ++ spec.canonical_source word.now) }
 {
     match word {
         SourceWord::SourceFile(name) => {
@@ -342,7 +342,7 @@ fn put_source(alloc: Global, out: &mut Items<Token>, word: &SourceWord) -> Resul
 }
 
 fn put_sink(alloc: Global, out: &mut Items<Token>, word: &SinkWord) -> Result<(), NoMemory>
-    ensures { OnOk result (out.new ≡ out.old ++ spec.sink_tokens word.now) }
+    ensures { OnOk result (out.new ≡ out.old ++ spec.canonical_sink word.now) }
 {
     match word {
         SinkWord::SinkFile(name) => {
@@ -354,7 +354,7 @@ fn put_sink(alloc: Global, out: &mut Items<Token>, word: &SinkWord) -> Result<()
 
 /// Adds the tokens of a word with its arguments.
 pub fn put_word(alloc: Global, out: &mut Items<Token>, word: &Word) -> Result<(), NoMemory>
-    ensures tokens { OnOk result (out.new ≡ out.old ++ spec.word_tokens word.now) }
+    ensures tokens { OnOk result (out.new ≡ out.old ++ spec.canonical_word word.now) }
     ensures range { OnOk result (ranges.word word.now ≡ true) }
 {
     match word {

@@ -4,12 +4,12 @@
 mod canonical;
 mod canonical_words;
 mod limits;
+mod parsing;
 mod printing;
 mod reader;
 mod refusal;
-mod text;
 
 pub use cd_elem::LimitKind;
+pub use parsing::parse;
 pub use printing::print;
 pub use refusal::ScriptRefusal;
-pub use text::parse;

@@ -1,7 +1,7 @@
 // Limits on the tokens.
 ghost use Rattle.std.specs.Prelude.{◌≡◌, ◌≤◌, ◌+◌};
 ghost use Rattle.cd_grammar.specs.Limits as spec;
-ghost use Rattle.cd_script.specs.Reading.{bounds_of};
+ghost use Rattle.cd_script.specs.Reader.{bounds_of};
 
 use cd_elem::{CountedWord, Keyword, LimitKind, Sign, Token};
 
@@ -27,8 +27,8 @@ fn up_to(most: u64) -> Bounds
     Bounds { least: 0, most }
 }
 
-fn lengths() -> Bounds
-    ensures { bounds_of result ≡ spec.lengths }
+fn length_bounds() -> Bounds
+    ensures { bounds_of result ≡ spec.length_bounds }
 {
     Bounds {
         least: 1,
@@ -48,9 +48,9 @@ fn counted_bounds(word: CountedWord) -> Bounds
         CountedWord::Repeat => up_to(4096),
         CountedWord::Drop => every_number(),
         CountedWord::Collect => up_to(16_777_216),
-        CountedWord::Lines => lengths(),
-        CountedWord::Exact => lengths(),
-        CountedWord::ChunksOf => lengths(),
+        CountedWord::Lines => length_bounds(),
+        CountedWord::Exact => length_bounds(),
+        CountedWord::ChunksOf => length_bounds(),
     }
 }
 
@@ -71,14 +71,14 @@ pub fn bounds_behind(token: &Token) -> Bounds
 {
     match token {
         Token::Word(word) => keyword_bounds(*word),
-        Token::Text(_) => lengths(),
+        Token::Text(_) => length_bounds(),
         _ => every_number(),
     }
 }
 
-fn sign_brackets(opened: usize, sign: Sign) -> usize
+fn brackets_with_sign(opened: usize, sign: Sign) -> usize
     requires { opened + 1 ≤ usize.MAX }
-    ensures value { result ≡ spec.sign_brackets opened sign }
+    ensures value { result ≡ spec.brackets_with_sign opened sign }
     ensures within { result ≤ opened + 1 }
 {
     match sign {
@@ -95,13 +95,13 @@ pub fn brackets_with(opened: usize, token: &Token) -> usize
     ensures within { result ≤ opened + 1 }
 {
     match token {
-        Token::Sign(sign) => sign_brackets(opened, *sign),
+        Token::Sign(sign) => brackets_with_sign(opened, *sign),
         _ => opened,
     }
 }
 
-fn opens(sign: Sign) -> bool
-    ensures { result ≡ spec.opens sign }
+fn sign_opens_bracket(sign: Sign) -> bool
+    ensures { result ≡ spec.sign_opens_bracket sign }
 {
     match sign {
         Sign::OpenBrace | Sign::OpenParen | Sign::OpenSquare => true,
@@ -109,11 +109,11 @@ fn opens(sign: Sign) -> bool
     }
 }
 
-fn is_opening(token: &Token) -> bool
-    ensures { result ≡ spec.is_opening token.now }
+fn opens_bracket(token: &Token) -> bool
+    ensures { result ≡ spec.opens_bracket token.now }
 {
     match token {
-        Token::Sign(sign) => opens(*sign),
+        Token::Sign(sign) => sign_opens_bracket(*sign),
         _ => false,
     }
 }
@@ -145,7 +145,7 @@ pub fn limit_of(count: usize, opened: usize, bounds: Bounds, token: &Token) -> O
     if count >= 8192 {
         return Some(LimitKind::Tokens);
     }
-    if opened >= 32 && is_opening(token) {
+    if opened >= 32 && opens_bracket(token) {
         return Some(LimitKind::Depth);
     }
     if is_too_long(token) {

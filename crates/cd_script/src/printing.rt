@@ -1,21 +1,21 @@
 // From a tree to its canonical text.
 ghost use Rattle.std.specs.Prelude.{◌≡◌, ◌++◌, true, IfOk, OnOk, string_bytes};
 ghost use Rattle.cd_grammar.specs.Canonical.{IsTreeWithin};
-ghost use Rattle.cd_grammar.specs.CanonicalText.{canonical_text, line};
+ghost use Rattle.cd_grammar.specs.CanonicalText.{canonical_text, statement_line};
 ghost use Rattle.cd_grammar.specs.Refusals.{IsText};
 ghost use Rattle.cd_script.specs.Ranges as ranges;
 
-use crate::canonical::statement_tokens;
+use crate::canonical::canonical_statement;
 use cd_elem::{NoMemory, Script, Stmt};
 use cd_lex::push_spaced;
 use std::alloc::Global;
 
 /// Adds the line of a statement. After an error some of it may stand there.
 fn push_line(alloc: Global, text: &mut String, statement: &Stmt) -> Result<(), NoMemory>
-    ensures line { OnOk result (string_bytes text.new ≡ string_bytes text.old ++ line statement.now) }
+    ensures statement_line { OnOk result (string_bytes text.new ≡ string_bytes text.old ++ statement_line statement.now) }
     ensures range { OnOk result (ranges.statement statement.now ≡ true) }
 {
-    let tokens = statement_tokens(alloc, statement)?;
+    let tokens = canonical_statement(alloc, statement)?;
     push_spaced(text, tokens.as_slice())?;
     text.push_str("\n")?;
     Ok(())

@@ -4,26 +4,26 @@ ghost use Rattle.cd_elem.specs.declared.script.Stmt.{Stmt};
 ghost use Rattle.cd_grammar.specs.Grammar.{IsScript};
 ghost use Rattle.cd_grammar.specs.Limits.{IsWithinLimits, every_number};
 ghost use Rattle.cd_grammar.specs.Refusals.{tokens};
-ghost use Rattle.cd_script.specs.Answers.{Answers, Gives};
+ghost use Rattle.cd_script.specs.Answers.{AnswersTokens, AnswersOnly};
 ghost use Rattle.cd_parser.specs.Machine.{start};
-ghost use Rattle.cd_script.specs.Reading.{Reads, bounds_of, ending, is_between};
+ghost use Rattle.cd_script.specs.Reader.{ReadsToken, bounds_of, ending, is_between};
 
 use crate::limits::{Bounds, bounds_behind, brackets_with, every_number, limit_of};
 use crate::refusal::ScriptRefusal;
 use cd_elem::{Items, Lexeme, NoMemory, Script};
-use cd_parser::{Place, State, step};
+use cd_parser::{ParserState, Position, step};
 use std::alloc::Global;
 
 /// The parser behind some tokens.
 #[derive(Drop)]
 struct Reader {
-    state: State,
+    state: ParserState,
     opened: usize,
     bounds: Bounds,
 }
 
 /// One more token, behind so many.
-fn read(
+fn read_token(
     alloc: Global,
     reader: Reader,
     count: usize,
@@ -31,7 +31,7 @@ fn read(
 ) -> Result<Reader, ScriptRefusal>
     requires room { count + 1 ≤ usize.MAX }
     requires opened { reader.opened ≤ count }
-    ensures reads { Reads reader count lexeme.now result }
+    ensures reads { ReadsToken reader count lexeme.now result }
     ensures opened { IfOk result (λ new. new.opened ≤ count + 1) }
 {
     let Reader {
@@ -57,40 +57,43 @@ fn read(
     }
 }
 
-fn begun(alloc: Global) -> Reader
+fn start_reader(alloc: Global) -> Reader
     ensures state { result.state ≡ start }
     ensures opened { result.opened ≡ 0 }
     ensures bounds { bounds_of result.bounds ≡ every_number }
 {
     Reader {
-        state: State {
+        state: ParserState {
             statements: Items::new(alloc),
-            place: Place::Between,
+            position: Position::Between,
         },
         opened: 0,
         bounds: every_number(),
     }
 }
 
-fn is_between(place: &Place) -> bool
-    ensures { result ≡ is_between place.now }
+fn is_between(position: &Position) -> bool
+    ensures { result ≡ is_between position.now }
 {
-    match place {
-        Place::Between => true,
+    match position {
+        Position::Between => true,
         _ => false,
     }
 }
 
-fn ending(reader: Reader, whole: bool, end: u32) -> Result<Script, ScriptRefusal>
+fn finish(reader: Reader, whole: bool, end: u32) -> Result<Script, ScriptRefusal>
     ensures { result ≡ ending reader.state whole end }
 {
     let Reader { state, .. } = reader;
-    let State { statements, place } = state;
-    if whole && is_between(&place) {
-        drop(place);
+    let ParserState {
+        statements,
+        position,
+    } = state;
+    if whole && is_between(&position) {
+        drop(position);
         Ok(Script::new(statements))
     } else {
-        drop((statements, place));
+        drop((statements, position));
         Err(ScriptRefusal::Syntax { at: end })
     }
 }
@@ -103,16 +106,16 @@ pub fn parse_tokens(
     whole: bool,
     end: u32,
 ) -> Result<Script, ScriptRefusal>
-    ensures exact { Answers lexemes.now whole end result }
+    ensures exact { AnswersTokens lexemes.now whole end result }
     ensures only { (tree : List Stmt) → whole ≡ true → IsScript (tokens lexemes.now) tree
-        → IsWithinLimits (tokens lexemes.now) → Gives tree result }
+        → IsWithinLimits (tokens lexemes.now) → AnswersOnly tree result }
 {
-    let mut reader = begun(alloc);
+    let mut reader = start_reader(alloc);
     for (count, lexeme) in lexemes.iter().enumerate() {
-        match read(alloc, reader, count, lexeme) {
+        match read_token(alloc, reader, count, lexeme) {
             Ok(next) => reader = next,
             Err(refusal) => return Err(refusal),
         }
     }
-    ending(reader, whole, end)
+    finish(reader, whole, end)
 }

@@ -3,13 +3,13 @@ use Rattle.std.proofs.Common.{◌≡◌, ℕ, ◌+◌, Bool, true, false, ◌||�
 use Rattle.cd_meaning.specs.Stream.{Item, Value, Halt, Done, Halts, Act}
 use Rattle.cd_meaning.specs.Run.{Stamp, stamp, Run, Then, Ends, last, restamp}
 use Rattle.cd_meaning.specs.Rest.{Rest, Grade, nets, needs, net_if, view, IsToCome, past_by, Moves, Gets, GetsEnd, Finishes, Stuck}
-use Rattle.cd_meaning.specs.Words.{Told, Seen}
+use Rattle.cd_meaning.specs.RunShapes.{Told, Seen}
 use Rattle.cd_meaning.specs.Values.{value_meaning}
 use Rattle.cd_meaning.proofs.Restamp.{restamp_id}
-use Rattle.cd_meaning.proofs.Moves.{past_by_0, net_if_twice}
-use Rattle.cd_meaning.proofs.FusedMoves.{IsGrade}
-use Rattle.cd_meaning.proofs.PlainMoves.{finishes_after}
-use Rattle.cd_meaning.proofs.ScanMoves.{moves_after}
+use Rattle.cd_meaning.proofs.Moves.Laws.{past_by_0, net_if_twice}
+use Rattle.cd_meaning.proofs.Moves.Fused.{IsGrade}
+use Rattle.cd_meaning.proofs.Moves.Plain.{finishes_after}
+use Rattle.cd_meaning.proofs.Moves.Scans.{moves_after}
 use Rattle.cd_step.specs.declared.protocol.Move.{Move}
 use Rattle.cd_step.specs.declared.protocol.Move.TheVariants.{Emit, Need, Done as Finished, Fault as Faulted}
 use Rattle.cd_step.specs.declared.protocol.Input.TheVariants.{Chunk as Given, End as TheEnd}

@@ -10,9 +10,9 @@ use Rattle.cd_meaning.specs.Laws.{Rising}
 use Rattle.cd_meaning.specs.Rest.{Rest, Grade, Moves, Finishes, fresh, reads_first}
 use Rattle.cd_meaning.specs.Scan.{Scan, Go, Back, Fail, scan}
 use Rattle.cd_meaning.specs.Values.{value_meaning}
-use Rattle.cd_meaning.proofs.Scanned.{scan_rising}
-use Rattle.cd_meaning.proofs.PlainMoves.{finishes_after}
-use Rattle.cd_meaning.proofs.ScanMoves.{moves_after, moves_join, pending_more, scan_reads, scan_finishes, scan_back, scan_fails, scan_needs, scan_ends}
+use Rattle.cd_meaning.proofs.Runs.Scans.{scan_rising}
+use Rattle.cd_meaning.proofs.Moves.Plain.{finishes_after}
+use Rattle.cd_meaning.proofs.Moves.Scans.{moves_after, moves_join, pending_more, scan_reads, scan_finishes, scan_back, scan_fails, scan_needs, scan_ends}
 use Rattle.cd_step.specs.declared.protocol.Input.{Input}
 use Rattle.cd_step.specs.declared.protocol.Input.TheVariants.{Start, Chunk as Given, End as TheEnd, Next}
 use Rattle.cd_step.specs.declared.protocol.Move.{Move}

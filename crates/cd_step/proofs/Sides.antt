@@ -6,7 +6,7 @@ use Rattle.cd_meaning.specs.Stream.{Act, Out}
 use Rattle.cd_meaning.specs.Run.{stamp, Run, Then, Ends, restamp}
 use Rattle.cd_meaning.specs.Rest.{Rest, Grade, needs, Moves}
 use Rattle.cd_meaning.specs.Laws.{Rising}
-use Rattle.cd_meaning.specs.Words.{Seen}
+use Rattle.cd_meaning.specs.RunShapes.{Seen}
 use Rattle.cd_step.specs.declared.protocol.Stand.{Stand}
 use Rattle.cd_step.specs.declared.protocol.Stand.TheVariants.{Over as StandOver}
 use Rattle.cd_step.specs.declared.protocol.Move.TheVariants.{Need}

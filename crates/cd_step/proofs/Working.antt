@@ -1,7 +1,7 @@
 -- An act done is work done.
 use Rattle.std.proofs.Common.{◌≡◌, ℕ, ◌+◌, List, length, refl, ap, sym, ◌∙◌}
 use Rattle.cd_meaning.specs.Stream.{Act}
-use Rattle.cd_meaning.proofs.Work as by
+use Rattle.cd_meaning.proofs.Moves.Work as by
 use Rattle.cd_step.specs.Parts.{Part, Goes_on, rest, nothing_known}
 
 -- the acts of a part before it waits, or once it was told the end before it ends, where nothing is known of its sites

@@ -8,7 +8,7 @@ use Rattle.cd_meaning.specs.Stream.{Sort, Item, Elem, Piece, Stop, Decode, End, 
 use Rattle.cd_meaning.specs.Run.{Component, restamp}
 use Rattle.cd_meaning.specs.Rest.{Rest, Grade, Moves, Asks, Finishes, Stuck}
 use Rattle.cd_meaning.specs.Laws.{Rising, less_by}
-use Rattle.cd_meaning.specs.Words.{Told, Seen, MayGoOn}
+use Rattle.cd_meaning.specs.RunShapes.{Told, Seen, MayGoOn}
 use Rattle.cd_meaning.specs.Values.{value_meaning}
 use Rattle.cd_step.specs.declared.protocol.Input.{Input}
 use Rattle.cd_step.specs.declared.protocol.Input.TheVariants.{Start, Chunk as Given, End as TheEnd, Next}

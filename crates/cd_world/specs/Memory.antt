@@ -3,7 +3,7 @@ use Rattle.std.specs.Prelude.{◌≡◌, ℕ, ◌-◌, ◌^◌, ◌==◌, ◌||�
 use Rattle.cd_world.specs.declared.event.Event.{Event}
 use Rattle.cd_world.specs.declared.event.Use.{Use}
 use Rattle.cd_world.specs.declared.memory.MemoryWorld.{MemoryWorld}
-use Rattle.cd_world.specs.declared.memory.Side.{Side}
+use Rattle.cd_world.specs.declared.memory.OpenMember.{OpenMember}
 use Rattle.cd_world.specs.declared.plan.Call.TheVariants.{Opening, Writing}
 use Rattle.cd_world.specs.declared.plan.Plan.{Plan}
 use Rattle.cd_world.specs.declared.world.WorldError.{WorldError}
@@ -34,7 +34,7 @@ log_in w = w.log.0
 abbrev pub faults_in : MemoryWorld → ℕ
 faults_in w = w.faults
 
-abbrev pub counts_of : List Side → List ℕ
+abbrev pub counts_of : List OpenMember → List ℕ
 counts_of sides = map (λ side. side.given) sides
 
 -- the files, by what the members hold, how much was given on each descriptor, and how much of standard input

@@ -26,7 +26,7 @@ const STDERR: &str = "<stderr>";
 
 /// What stands beside an open file: the name of its member, and how many bytes were given of it.
 #[derive(Drop)]
-pub struct Side {
+pub struct OpenMember {
     pub member: Literal,
     pub given: usize,
 }
@@ -64,7 +64,7 @@ pub struct MemoryWorld {
     store: Store,
     input_given: usize,
     table: OpenTable,
-    sides: Vec<Side>,
+    sides: Vec<OpenMember>,
     log: EventList,
     faults: u64,
     // each open file has its member beside it
@@ -208,7 +208,7 @@ impl MemoryWorld {
         ensures store { self.new.store ≡ self.old.store }
     {
         let descriptor = self.table.add(use_of, entry);
-        self.sides.push_reserved(Side { member, given: 0 });
+        self.sides.push_reserved(OpenMember { member, given: 0 });
         descriptor
     }
 

@@ -11,7 +11,7 @@ use Rattle.cd_elem.specs.declared.token.Token.TheVariants as token
 use Rattle.cd_elem.specs.declared.token.Lexeme.{Lexeme}
 use Rattle.cd_elem.specs.declared.token.LimitKind.TheVariants.{Tokens}
 use Rattle.cd_grammar.specs.Grammar as g
-use Rattle.cd_grammar.specs.Limits.{Bounds, is_opening, is_outside, is_too_long, limit_at, limit_behind, limit_here}
+use Rattle.cd_grammar.specs.Limits.{Bounds, opens_bracket, is_outside, is_too_long, limit_at, limit_behind, limit_here}
 use Rattle.cd_grammar.specs.Refusals.{tokens, PassesLimit, PassesTo}
 
 abbrev release : Token
@@ -54,7 +54,7 @@ front n i = record {
 
 -- ---- each passes no limit behind at most 8,191 tokens
 record IsPlain (t : Token) : Type 0 where
-  opens : is_opening t ≡ false
+  opens : opens_bracket t ≡ false
   long : is_too_long t ≡ false
   outside : (r : Bounds) → is_outside r t ≡ false
 

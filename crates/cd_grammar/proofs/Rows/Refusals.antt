@@ -47,7 +47,7 @@ fits (token.Word (keyword.Opening opening.Release) ∷ token.Named n ∷ token.S
 fits (token.Word (keyword.Opening opening.Release) ∷ ts) = false
 fits ts = true
 
-one_fits : (s : g.Sentence) (rest : List Token) → fits (g.sentence_tokens s ++ rest) ≡ true
+one_fits : (s : g.StatementForm) (rest : List Token) → fits (g.statement_tokens s ++ rest) ≡ true
 one_fits (g.Run p) rest = refl
 one_fits (g.Seal n p) rest = refl
 one_fits (g.Feed n p) rest = refl
@@ -55,9 +55,9 @@ one_fits (g.CloseSeal n p) rest = refl
 one_fits (g.Hold n f) rest = refl
 one_fits (g.Release n) rest = refl
 
-all_fit : (d : List g.Sentence) (rest : List Token) → fits rest ≡ true → fits (g.script_tokens d ++ rest) ≡ true
+all_fit : (d : List g.StatementForm) (rest : List Token) → fits rest ≡ true → fits (g.script_tokens d ++ rest) ≡ true
 all_fit [] rest e = e
-all_fit (s ∷ before) rest e = ap fits (append_assoc (g.script_tokens before) (g.sentence_tokens s) rest) ∙ all_fit before (g.sentence_tokens s ++ rest) (one_fits s rest)
+all_fit (s ∷ before) rest e = ap fits (append_assoc (g.script_tokens before) (g.statement_tokens s) rest) ∙ all_fit before (g.statement_tokens s ++ rest) (one_fits s rest)
 
 script_fits : (ts : List Token) (tree : List Stmt) → g.IsScript ts tree → fits ts ≡ true
 script_fits ts tree i = ap fits (sym i.spelled) ∙ ap fits (sym (append-nil (g.script_tokens i.derivation))) ∙ all_fit i.derivation [] refl
@@ -66,7 +66,7 @@ apart : false ≡ true → ⊥
 apart e = cc
 
 -- ---- `release a;`, and the fronts of it
-abbrev released : List g.Sentence
+abbrev released : List g.StatementForm
 released = g.Release (codes "a") ∷ []
 
 is_script : g.IsScript (release ∷ a ∷ semicolon ∷ []) (stmt.Release (codes "a") ∷ [])
@@ -221,7 +221,7 @@ limit_at_the_name = record {
 }
 
 -- `run` and 33 parentheses, the last at 36
-abbrev nested : ℕ → g.Whole
+abbrev nested : ℕ → g.PipeForm
 nested zero = g.One (g.OfWord (g.Plain plain.PassE))
 nested (suc n) = g.One (g.Parens (nested n))
 

@@ -22,53 +22,53 @@ use Rattle.cd_elem.specs.declared.word.SplitWord.TheVariants as split
 use Rattle.cd_elem.specs.declared.word.SourceWord.TheVariants as source
 use Rattle.cd_elem.specs.declared.word.SinkWord.TheVariants as sink
 use Rattle.cd_elem.specs.declared.word.ClassName.TheVariants as name
-use Rattle.cd_grammar.specs.Canonical.{Piece, piece, piece_step, statement_tokens, is_name, is_proper, is_proper_statement, is_proper_word, proper_step}
+use Rattle.cd_grammar.specs.Canonical.{PipeTokens, canonical_pipe, canonical_step, canonical_statement, is_name, is_proper, is_proper_statement, is_proper_word, proper_step}
 use Rattle.cd_grammar.specs.Spelling.{quoted}
-use Rattle.cd_grammar.specs.CanonicalText.{line, spaced, canonical_text}
+use Rattle.cd_grammar.specs.CanonicalText.{statement_line, spaced, canonical_text}
 use Rattle.cd_grammar.specs.Grammar.{operator}
 
-abbrev run : Piece → List ℕ
+abbrev run : PipeTokens → List ℕ
 run p = spaced (token.Word keyword.Run ∷ p.tokens ++ token.Sign sign.Semicolon ∷ [])
 
-abbrev of_word : Word → Piece
-of_word w = piece_step (Pipe-F.Word w)
+abbrev of_word : Word → PipeTokens
+of_word w = canonical_step (Pipe-F.Word w)
 
-abbrev passed : Piece
+abbrev passed : PipeTokens
 passed = of_word (word.Elem elem.PassE)
 
 empty_script : canonical_text [] ≡ []
 empty_script = refl
 
-chain : run (piece_step (Pipe-F.Chain join.Plain (of_word (word.Source (source.SourceFile (codes "a"))) ∷ of_word (word.Elem (elem.TakeE 5)) ∷ of_word (word.Sink sink.Stdout) ∷ []))) ≡ codes "run sourceFile \"a\" | takeE 5 | stdout;"
+chain : run (canonical_step (Pipe-F.Chain join.Plain (of_word (word.Source (source.SourceFile (codes "a"))) ∷ of_word (word.Elem (elem.TakeE 5)) ∷ of_word (word.Sink sink.Stdout) ∷ []))) ≡ codes "run sourceFile \"a\" | takeE 5 | stdout;"
 unfolding digits
 chain = refl
 
-chain_in_a_chain : run (piece_step (Pipe-F.Chain join.Keep (passed ∷ piece_step (Pipe-F.Chain join.Asked (passed ∷ passed ∷ [])) ∷ []))) ≡ codes "run passE |= (passE |? passE);"
+chain_in_a_chain : run (canonical_step (Pipe-F.Chain join.Keep (passed ∷ canonical_step (Pipe-F.Chain join.Asked (passed ∷ passed ∷ [])) ∷ []))) ≡ codes "run passE |= (passE |? passE);"
 chain_in_a_chain = refl
 
-first_chain_in_a_chain : run (piece_step (Pipe-F.Chain join.Plain (piece_step (Pipe-F.Chain join.Plain (passed ∷ passed ∷ [])) ∷ passed ∷ []))) ≡ codes "run (passE | passE) | passE;"
+first_chain_in_a_chain : run (canonical_step (Pipe-F.Chain join.Plain (canonical_step (Pipe-F.Chain join.Plain (passed ∷ passed ∷ [])) ∷ passed ∷ []))) ≡ codes "run (passE | passE) | passE;"
 first_chain_in_a_chain = refl
 
-sequence : run (piece_step (Pipe-F.Sequence (passed ∷ piece_step (Pipe-F.Chain join.Up (passed ∷ passed ∷ [])) ∷ []))) ≡ codes "run { passE; passE |< passE };"
+sequence : run (canonical_step (Pipe-F.Sequence (passed ∷ canonical_step (Pipe-F.Chain join.Up (passed ∷ passed ∷ [])) ∷ []))) ≡ codes "run { passE; passE |< passE };"
 sequence = refl
 
-tee : run (piece_step (Pipe-F.Tee (piece_step (Pipe-F.Chain join.Both (passed ∷ passed ∷ []))))) ≡ codes "run tee(passE |& passE);"
+tee : run (canonical_step (Pipe-F.Tee (canonical_step (Pipe-F.Chain join.Both (passed ∷ passed ∷ []))))) ≡ codes "run tee(passE |& passE);"
 tee = refl
 
-zip_source : run (piece_step (Pipe-F.ZipSource passed passed (codes "x"))) ≡ codes "run zipSource(passE, passE, \"x\");"
+zip_source : run (canonical_step (Pipe-F.ZipSource passed passed (codes "x"))) ≡ codes "run zipSource(passE, passE, \"x\");"
 zip_source = refl
 
-zip_sink : run (piece_step (Pipe-F.ZipSink passed passed)) ≡ codes "run zipSink(passE, passE);"
+zip_sink : run (canonical_step (Pipe-F.ZipSink passed passed)) ≡ codes "run zipSink(passE, passE);"
 zip_sink = refl
 
-zip_conduit : run (piece_step (Pipe-F.ZipConduit passed passed)) ≡ codes "run zipConduit(passE, passE);"
+zip_conduit : run (canonical_step (Pipe-F.ZipConduit passed passed)) ≡ codes "run zipConduit(passE, passE);"
 zip_conduit = refl
 
-sections : run (piece_step (Pipe-F.Exactly 3 (piece_step (Pipe-F.LineE (piece_step (Pipe-F.Mark (codes "f") passed)))))) ≡ codes "run exactly 3 { lineE { mark \"f\" { passE } } };"
+sections : run (canonical_step (Pipe-F.Exactly 3 (canonical_step (Pipe-F.LineE (canonical_step (Pipe-F.Mark (codes "f") passed)))))) ≡ codes "run exactly 3 { lineE { mark \"f\" { passE } } };"
 unfolding digits
 sections = refl
 
-section_of_elements : run (piece_step (Pipe-F.ExactlyE 3 passed)) ≡ codes "run exactlyE 3 { passE };"
+section_of_elements : run (canonical_step (Pipe-F.ExactlyE 3 passed)) ≡ codes "run exactlyE 3 { passE };"
 unfolding digits
 section_of_elements = refl
 
@@ -103,29 +103,29 @@ other_characters = refl
 abbrev pass_e : Pipe
 pass_e = pipe.Word (word.Elem elem.PassE)
 
-one_piece : (w : Word) → piece (pipe.Word w) ≡ piece_step (Pipe-F.Word w)
-unfolding piece
-one_piece w = ap piece (sym (pipe.rolls-Word w)) ∙ fold-roll-Pipe Piece piece_step _
+one_piece : (w : Word) → canonical_pipe (pipe.Word w) ≡ canonical_step (Pipe-F.Word w)
+unfolding canonical_pipe
+one_piece w = ap canonical_pipe (sym (pipe.rolls-Word w)) ∙ fold-roll-Pipe PipeTokens canonical_step _
 
-run_line : line (stmt.Run pass_e) ≡ codes "run passE;\n"
+run_line : statement_line (stmt.Run pass_e) ≡ codes "run passE;\n"
 run_line = rw one_piece refl
 
-let_tokens : statement_tokens (stmt.Seal (codes "a") pass_e) ≡ token.Word (keyword.Opening opening.Let) ∷ token.Named (codes "a") ∷ token.Sign sign.Equals ∷ token.Word keyword.Seal ∷ token.Word (keyword.Plain plain.PassE) ∷ token.Sign sign.Semicolon ∷ []
+let_tokens : canonical_statement (stmt.Seal (codes "a") pass_e) ≡ token.Word (keyword.Opening opening.Let) ∷ token.Named (codes "a") ∷ token.Sign sign.Equals ∷ token.Word keyword.Seal ∷ token.Word (keyword.Plain plain.PassE) ∷ token.Sign sign.Semicolon ∷ []
 let_tokens = rw one_piece refl
 
-let_line : line (stmt.Seal (codes "a") pass_e) ≡ codes "let a = seal passE;\n"
+let_line : statement_line (stmt.Seal (codes "a") pass_e) ≡ codes "let a = seal passE;\n"
 let_line = rw one_piece refl
 
-feed_tokens : statement_tokens (stmt.Feed (codes "a") pass_e) ≡ token.Word (keyword.Opening opening.Feed) ∷ token.Named (codes "a") ∷ operator join.Plain ∷ token.Word (keyword.Plain plain.PassE) ∷ token.Sign sign.Semicolon ∷ []
+feed_tokens : canonical_statement (stmt.Feed (codes "a") pass_e) ≡ token.Word (keyword.Opening opening.Feed) ∷ token.Named (codes "a") ∷ operator join.Plain ∷ token.Word (keyword.Plain plain.PassE) ∷ token.Sign sign.Semicolon ∷ []
 feed_tokens = rw one_piece refl
 
-feed_line : line (stmt.Feed (codes "a") pass_e) ≡ codes "feed a | passE;\n"
+feed_line : statement_line (stmt.Feed (codes "a") pass_e) ≡ codes "feed a | passE;\n"
 feed_line = rw one_piece refl
 
-close_tokens : statement_tokens (stmt.CloseSeal (codes "a") pass_e) ≡ token.Word (keyword.Opening opening.Close) ∷ token.Named (codes "a") ∷ operator join.Plain ∷ token.Word (keyword.Plain plain.PassE) ∷ token.Sign sign.Semicolon ∷ []
+close_tokens : canonical_statement (stmt.CloseSeal (codes "a") pass_e) ≡ token.Word (keyword.Opening opening.Close) ∷ token.Named (codes "a") ∷ operator join.Plain ∷ token.Word (keyword.Plain plain.PassE) ∷ token.Sign sign.Semicolon ∷ []
 close_tokens = rw one_piece refl
 
-close_line : line (stmt.CloseSeal (codes "a") pass_e) ≡ codes "close a | passE;\n"
+close_line : statement_line (stmt.CloseSeal (codes "a") pass_e) ≡ codes "close a | passE;\n"
 close_line = rw one_piece refl
 
 -- ---- the form of a script's tree, by what its parts are

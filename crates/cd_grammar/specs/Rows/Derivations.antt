@@ -34,16 +34,16 @@ use Rattle.cd_elem.specs.declared.word.PieceMap.TheVariants as piece_map
 use Rattle.cd_elem.specs.declared.script.Pipe.{Pipe}
 use Rattle.cd_grammar.specs.Grammar as g
 
-abbrev part : g.Part
+abbrev part : g.PartForm
 part = g.OfWord (g.Plain plain.PassE)
 
-abbrev one : g.Whole
+abbrev one : g.PipeForm
 one = g.One part
 
 abbrev passed : Pipe
 passed = pipe.Word (word.Elem elem.PassE)
 
-abbrev named_f : g.File
+abbrev named_f : g.FileName
 named_f = record { first = 102; rest = [] }
 
 one_a : g.one_scalar (codes "a") ≡ Some 97
@@ -183,33 +183,33 @@ zip_conduit : (g.part_tokens (g.ZipConduit one one) ≡ token.Word (keyword.Zip 
 zip_conduit = (refl, refl)
 
 -- `passE |& passE |& passE`
-chain : (g.whole_tokens (g.Chain join.Both (g.Then (g.First part) part) part) ≡ token.Word (keyword.Plain plain.PassE) ∷ g.operator join.Both ∷ token.Word (keyword.Plain plain.PassE) ∷ g.operator join.Both ∷ token.Word (keyword.Plain plain.PassE) ∷ []) × (g.whole_tree (g.Chain join.Both (g.Then (g.First part) part) part) ≡ pipe.Chain join.Both (passed ∷ passed ∷ passed ∷ []))
+chain : (g.pipe_tokens (g.Chain join.Both (g.Then (g.First part) part) part) ≡ token.Word (keyword.Plain plain.PassE) ∷ g.operator join.Both ∷ token.Word (keyword.Plain plain.PassE) ∷ g.operator join.Both ∷ token.Word (keyword.Plain plain.PassE) ∷ []) × (g.pipe_tree (g.Chain join.Both (g.Then (g.First part) part) part) ≡ pipe.Chain join.Both (passed ∷ passed ∷ passed ∷ []))
 chain = (refl, refl)
 
 -- `passE | (passE |? passE)`
-chain_in_a_chain : (g.whole_tokens (g.Chain join.Plain (g.First part) (g.Parens (g.Chain join.Asked (g.First part) part))) ≡ token.Word (keyword.Plain plain.PassE) ∷ g.operator join.Plain ∷ token.Sign sign.OpenParen ∷ token.Word (keyword.Plain plain.PassE) ∷ g.operator join.Asked ∷ token.Word (keyword.Plain plain.PassE) ∷ token.Sign sign.CloseParen ∷ []) × (g.whole_tree (g.Chain join.Plain (g.First part) (g.Parens (g.Chain join.Asked (g.First part) part))) ≡ pipe.Chain join.Plain (passed ∷ pipe.Chain join.Asked (passed ∷ passed ∷ []) ∷ []))
+chain_in_a_chain : (g.pipe_tokens (g.Chain join.Plain (g.First part) (g.Parens (g.Chain join.Asked (g.First part) part))) ≡ token.Word (keyword.Plain plain.PassE) ∷ g.operator join.Plain ∷ token.Sign sign.OpenParen ∷ token.Word (keyword.Plain plain.PassE) ∷ g.operator join.Asked ∷ token.Word (keyword.Plain plain.PassE) ∷ token.Sign sign.CloseParen ∷ []) × (g.pipe_tree (g.Chain join.Plain (g.First part) (g.Parens (g.Chain join.Asked (g.First part) part))) ≡ pipe.Chain join.Plain (passed ∷ pipe.Chain join.Asked (passed ∷ passed ∷ []) ∷ []))
 chain_in_a_chain = (refl, refl)
 
 -- `run passE;`
-run : (g.sentence_tokens (g.Run one) ≡ token.Word keyword.Run ∷ token.Word (keyword.Plain plain.PassE) ∷ token.Sign sign.Semicolon ∷ []) × (g.sentence_tree (g.Run one) ≡ stmt.Run passed)
+run : (g.statement_tokens (g.Run one) ≡ token.Word keyword.Run ∷ token.Word (keyword.Plain plain.PassE) ∷ token.Sign sign.Semicolon ∷ []) × (g.statement_tree (g.Run one) ≡ stmt.Run passed)
 run = (refl, refl)
 
 -- `let a = seal passE;`
-seal : (g.sentence_tokens (g.Seal (codes "a") one) ≡ token.Word (keyword.Opening opening.Let) ∷ token.Named (codes "a") ∷ token.Sign sign.Equals ∷ token.Word keyword.Seal ∷ token.Word (keyword.Plain plain.PassE) ∷ token.Sign sign.Semicolon ∷ []) × (g.sentence_tree (g.Seal (codes "a") one) ≡ stmt.Seal (codes "a") passed)
+seal : (g.statement_tokens (g.Seal (codes "a") one) ≡ token.Word (keyword.Opening opening.Let) ∷ token.Named (codes "a") ∷ token.Sign sign.Equals ∷ token.Word keyword.Seal ∷ token.Word (keyword.Plain plain.PassE) ∷ token.Sign sign.Semicolon ∷ []) × (g.statement_tree (g.Seal (codes "a") one) ≡ stmt.Seal (codes "a") passed)
 seal = (refl, refl)
 
 -- `feed a | passE;`
-feed : (g.sentence_tokens (g.Feed (codes "a") one) ≡ token.Word (keyword.Opening opening.Feed) ∷ token.Named (codes "a") ∷ g.operator join.Plain ∷ token.Word (keyword.Plain plain.PassE) ∷ token.Sign sign.Semicolon ∷ []) × (g.sentence_tree (g.Feed (codes "a") one) ≡ stmt.Feed (codes "a") passed)
+feed : (g.statement_tokens (g.Feed (codes "a") one) ≡ token.Word (keyword.Opening opening.Feed) ∷ token.Named (codes "a") ∷ g.operator join.Plain ∷ token.Word (keyword.Plain plain.PassE) ∷ token.Sign sign.Semicolon ∷ []) × (g.statement_tree (g.Feed (codes "a") one) ≡ stmt.Feed (codes "a") passed)
 feed = (refl, refl)
 
 -- `close a | passE;`
-close : (g.sentence_tokens (g.CloseSeal (codes "a") one) ≡ token.Word (keyword.Opening opening.Close) ∷ token.Named (codes "a") ∷ g.operator join.Plain ∷ token.Word (keyword.Plain plain.PassE) ∷ token.Sign sign.Semicolon ∷ []) × (g.sentence_tree (g.CloseSeal (codes "a") one) ≡ stmt.CloseSeal (codes "a") passed)
+close : (g.statement_tokens (g.CloseSeal (codes "a") one) ≡ token.Word (keyword.Opening opening.Close) ∷ token.Named (codes "a") ∷ g.operator join.Plain ∷ token.Word (keyword.Plain plain.PassE) ∷ token.Sign sign.Semicolon ∷ []) × (g.statement_tree (g.CloseSeal (codes "a") one) ≡ stmt.CloseSeal (codes "a") passed)
 close = (refl, refl)
 
 -- `hold a = mark "f";`
-hold : (g.sentence_tokens (g.Hold (codes "a") named_f) ≡ token.Word (keyword.Opening opening.Hold) ∷ token.Named (codes "a") ∷ token.Sign sign.Equals ∷ token.Word keyword.Mark ∷ token.Text (codes "f") ∷ token.Sign sign.Semicolon ∷ []) × (g.sentence_tree (g.Hold (codes "a") named_f) ≡ stmt.Hold (codes "a") (codes "f"))
+hold : (g.statement_tokens (g.Hold (codes "a") named_f) ≡ token.Word (keyword.Opening opening.Hold) ∷ token.Named (codes "a") ∷ token.Sign sign.Equals ∷ token.Word keyword.Mark ∷ token.Text (codes "f") ∷ token.Sign sign.Semicolon ∷ []) × (g.statement_tree (g.Hold (codes "a") named_f) ≡ stmt.Hold (codes "a") (codes "f"))
 hold = (refl, refl)
 
 -- `release a;`
-release : (g.sentence_tokens (g.Release (codes "a")) ≡ token.Word (keyword.Opening opening.Release) ∷ token.Named (codes "a") ∷ token.Sign sign.Semicolon ∷ []) × (g.sentence_tree (g.Release (codes "a")) ≡ stmt.Release (codes "a"))
+release : (g.statement_tokens (g.Release (codes "a")) ≡ token.Word (keyword.Opening opening.Release) ∷ token.Named (codes "a") ∷ token.Sign sign.Semicolon ∷ []) × (g.statement_tree (g.Release (codes "a")) ≡ stmt.Release (codes "a"))
 release = (refl, refl)

@@ -3,7 +3,7 @@ use Rattle.std.specs.Prelude.{◌≡◌, ℕ, ◌==◌, if◌then◌else◌, Lis
 use Rattle.std.proofs.Common.{ap}
 use Rattle.cd_meaning.specs.Stream.{Item, Sort, End, Ending, Effect}
 use Rattle.cd_meaning.specs.Run.{Run, effects, ending}
-use Rattle.cd_meaning.specs.Words.{Mark, AtEnd, Told, Seen}
+use Rattle.cd_meaning.specs.RunShapes.{Mark, AtEnd, Told, Seen}
 use Rattle.cd_meaning.specs.Pipes.{pipe_meaning}
 use Rattle.cd_meaning.specs.Scripts.{script_run, statements_from, first_state}
 use Rattle.cd_meaning.specs.Rows.Trees.{Tree, pipe_of, meaning_of, means, Sentence, statement_of, sentence_meaning, script_means}

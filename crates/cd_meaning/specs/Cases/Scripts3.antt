@@ -3,7 +3,7 @@ use Rattle.std.specs.Prelude.{List, [], ◌∷◌, ◌≡◌, codes}
 use Rattle.std.specs.Fmt.{digits}
 use lib.Utf8.{encode}
 use Rattle.cd_meaning.specs.Stream.{Value, Reading, More, Stop, bad_base64, ReadBad, Done, Halts, Open, Put, Close}
-use Rattle.cd_meaning.specs.Words.{AtEnd, MayGoOn, Broken}
+use Rattle.cd_meaning.specs.RunShapes.{AtEnd, MayGoOn, Broken}
 use Rattle.cd_meaning.specs.Rows.Trees.{Sentence}
 use Rattle.cd_meaning.specs.Rows.Short.{take_e, take_while_e, filter_e, map_e, repeat_e, drop_while_e, head_e, last_e, length_e, any_e, null_e, collect_e, sink_null, pass_word, take_word, take_while_word, filter_word, repeat_word, map_word, intersperse_word, drop_while_word, head_word, peek_word, last_word, length_word, collect_word, lines_word, split_word, exact_word, chunks_of_word, flat_word, unlines_word, utf8_word, utf8_lenient_word, utf8_encode_word, base64_encode_word, base64_decode_word, source_file_word, stdin_word, bytes_word, text_word, blocks_word, texts_word, range_word, sink_file_word, stdout_word, digit, upper, lower, alnum, newline, is_scalar, empty, begins, shorter, add, rot13, prefix, suffix, reversed, not_class, not_test, piped, piped_keep, piped_return, piped_both, exactly_form, exactly_e_form, line_e_form, mark_form, zip_source_form, zip_sink_form, zip_conduit_form, sequence_form, run_statement, let_statement, feed_statement}
 use Rattle.cd_meaning.specs.Cases.Known.{nothing_seen, known, effects_of, effects_so, ending_of, ending_so}

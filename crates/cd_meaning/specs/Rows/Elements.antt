@@ -1,7 +1,7 @@
 -- The words on elements, each on an empty input, an input that ends before the word does, one that waits, and where the word ends by itself.
 use Rattle.std.specs.Prelude.{◌≡◌, refl, [], ◌∷◌, ◌+◌, codes, true, false}
 use Rattle.cd_meaning.specs.Stream.{bad_hex, Ended, Halted, Stop, Value, absent, present}
-use Rattle.cd_meaning.specs.Words.{as_count}
+use Rattle.cd_meaning.specs.RunShapes.{as_count}
 use Rattle.cd_meaning.specs.Rows.Short.{add, all_e, any_e, collect_e, digit, drop_e, drop_while_e, filter_e, head_e, last_e, length_e, map_e, null_e, pass_e, peek_e, repeat_e, rot13, sink_null, space, sum_e, take_e, take_while_e, xor}
 use Rattle.cd_meaning.specs.Rows.Given.{rows, at_end, done_at, gives_elem, on_blocks, on_bytes, on_chars, stops_at, waiting, waits_past}
 

@@ -1,7 +1,7 @@
 -- Operators, sections, sequences and zips, with the stamps of the whole.
 use Rattle.std.specs.Prelude.{◌≡◌, [], ◌∷◌, codes}
 use Rattle.cd_meaning.specs.Stream.{Another, bad_base64, bad_hex, Ended, NoValues, Open, Put, Value, absent, present}
-use Rattle.cd_meaning.specs.Words.{AtEnd, MayGoOn}
+use Rattle.cd_meaning.specs.RunShapes.{AtEnd, MayGoOn}
 use Rattle.cd_meaning.specs.Rows.Short.{base64_decode_word, blocks_word, bytes_word, chunks_of_word, digit, drop_e, drop_word, empty, exactly_e_form, exactly_form, filter_e, flat_word, head_e, head_word, hex_decode_word, length_e, length_word, line_e_form, lines_word, map_e, map_word, pass_e, pass_word, peek_e, peek_word, piped, piped_asked, piped_both, piped_keep, piped_return, piped_up, reversed, sequence_form, sink_file_word, sink_null, source_file_word, stdin_word, stdout_word, take_e, take_while_e, take_while_word, take_word, tee_form, texts_word, xor, zip_conduit_form, zip_sink_form, zip_source_form}
 use Rattle.cd_meaning.specs.Rows.Given.{rows, at_end, does_at, done_at, gives_elem, gives_piece, late_elem, on_blocks, on_bytes, on_chars, on_nothing, on_texts, seen_of, stops_at, told_of, waiting, waits_for, waits_past, waits_reading}
 

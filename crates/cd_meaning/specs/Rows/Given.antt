@@ -2,7 +2,7 @@
 use Rattle.std.specs.Prelude.{ℕ, ◌+◌, ◌==◌, if◌then◌else◌, List, [], ◌∷◌, map, Some, None}
 use Rattle.cd_meaning.specs.Stream.{Elem, Piece, Sort, Value, Input, Reading, Stopped, Flow, More, Stop, End, Ended, Halted, Ending, Done, Halts, Out, Do, Effect, Put}
 use Rattle.cd_meaning.specs.Run.{stamp, Run, Then, Ends, effects, ending}
-use Rattle.cd_meaning.specs.Words.{Mark, MayGoOn, Told, Seen}
+use Rattle.cd_meaning.specs.RunShapes.{Mark, MayGoOn, Told, Seen}
 use Rattle.cd_meaning.specs.Pipes.{nodes, pipe_meaning}
 use Rattle.cd_meaning.specs.Scripts.{script_run}
 use Rattle.cd_meaning.specs.Rows.Trees.{Tree, pipe_of, Sentence, statement_of}

@@ -3,7 +3,7 @@ use Rattle.std.specs.Prelude.{◌≡◌, List, ℕ, [], ◌∷◌, codes, refl}
 use lib.Utf8.{encode}
 use Rattle.std.specs.Fmt.{digits}
 use Rattle.cd_meaning.specs.Stream.{bad_base64, Open, Put, Close, Halts, Stop, More, Reading}
-use Rattle.cd_meaning.specs.Words.{AtEnd, MayGoOn}
+use Rattle.cd_meaning.specs.RunShapes.{AtEnd, MayGoOn}
 use Rattle.cd_meaning.specs.Rows.Trees.{Tree, Sentence}
 use Rattle.cd_meaning.specs.Rows.Short.{add, base64_decode_word, blocks_word, bytes_word, collect_word, flat_word, head_e, hold_statement, intersperse_word, length_e, lines_word, map_e, not_class, filter_e, space, sink_file_word, pass_e, piped, rot13, run_statement, sequence_form, source_file_word, split_word, stdin_word, stdout_word, take_e, unlines_word, utf8_lenient_word, xor}
 use Rattle.cd_meaning.specs.Rows.Given.{rows, AtSite, does, ends_so, puts_at, told_of}

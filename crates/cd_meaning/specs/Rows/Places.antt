@@ -4,7 +4,7 @@ use lib.Utf8.{encode}
 use Rattle.std.specs.Fmt.{digits}
 use Rattle.cd_meaning.specs.Stream.{Open, Put, Close, Halts, Stop, Long}
 use Rattle.cd_meaning.specs.Run.{effects, ending}
-use Rattle.cd_meaning.specs.Words.{Mark, AtEnd, TooLong, Told, Seen}
+use Rattle.cd_meaning.specs.RunShapes.{Mark, AtEnd, TooLong, Told, Seen}
 use Rattle.cd_meaning.specs.Places.{Place, Reads, ReadsInput, Writes, WritesOutput, Marks, output_of, sent_to, whole}
 use Rattle.cd_meaning.specs.Pipes.{nodes}
 use Rattle.cd_meaning.specs.Scripts.{script_places, statement_places, script_run, standard_output}

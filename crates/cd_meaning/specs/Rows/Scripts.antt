@@ -3,7 +3,7 @@ use Rattle.std.specs.Prelude.{◌≡◌, ℕ, List, [], ◌∷◌, ◌++◌, cod
 use lib.Utf8.{encode}
 use Rattle.std.specs.Fmt.{digits}
 use Rattle.cd_meaning.specs.Stream.{bad_base64, bad_hex, bad_text, Close, Done, Halts, Long, More, Open, Put, ReadBad, Reading, Stop, Value}
-use Rattle.cd_meaning.specs.Words.{AtEnd, Broken, MayGoOn, TooLong}
+use Rattle.cd_meaning.specs.RunShapes.{AtEnd, Broken, MayGoOn, TooLong}
 use Rattle.cd_meaning.specs.Rows.Trees.{Sentence, Tree}
 use Rattle.cd_meaning.specs.Rows.Short.{base64_decode_word, blocks_word, chunks_of_word, collect_word, digit, drop_e, drop_word, exact_word, exactly_e_form, exactly_form, filter_e, flat_word, head_word, hex_decode_word, length_e, length_word, lines_word, map_e, map_word, mark_form, not_class, pass_e, pass_word, peek_word, piped, piped_asked, piped_both, piped_keep, piped_return, range_word, repeat_word, replicate_word, run_statement, sequence_form, sink_file_word, source_file_word, space, stdout_word, suffix, take_e, take_while_e, take_word, tee_form, utf8_encode_word, utf8_lenient_word, utf8_word, xor, zip_conduit_form, zip_sink_form}
 use Rattle.cd_meaning.specs.Rows.Given.{rows, AtSite, does, ends_so, puts_at, told_of}

@@ -3,7 +3,7 @@ use Rattle.std.specs.Prelude.{◌≡◌, ℕ, List, [], ◌∷◌, ◌++◌, cod
 use lib.Utf8.{encode}
 use Rattle.std.specs.Fmt.{digits}
 use Rattle.cd_meaning.specs.Stream.{bad_hex, bad_text, Close, Ended, Halted, Long, Open, Put, ReadBad, Stop, Value, present}
-use Rattle.cd_meaning.specs.Words.{AtEnd, Broken, MayGoOn, TooLong}
+use Rattle.cd_meaning.specs.RunShapes.{AtEnd, Broken, MayGoOn, TooLong}
 use Rattle.cd_meaning.specs.Rows.Short.{blocks_word, bytes_word, head_e, hex_decode_word, mark_form, pass_e, range_word, replicate_word, sink_file_word, source_file_word, stdin_word, stdout_word, take_e, text_word, texts_word}
 use Rattle.cd_meaning.specs.Rows.Given.{rows, at_end, does_at, done_at, gives_elem, gives_piece, on_bytes, on_nothing, seen_of, stops_at, told_of, waiting, waits_for, waits_past}
 

@@ -3,7 +3,7 @@ use Rattle.std.specs.Prelude.{◌≡◌, refl, ℕ, List, [], ◌∷◌, codes}
 use lib.Utf8.{encode}
 use Rattle.std.specs.Fmt.{digits}
 use Rattle.cd_meaning.specs.Stream.{Close, Done, Halts, More, Open, Put, Reading, Value}
-use Rattle.cd_meaning.specs.Words.{AtEnd, MayGoOn}
+use Rattle.cd_meaning.specs.RunShapes.{AtEnd, MayGoOn}
 use Rattle.cd_meaning.specs.Rows.Trees.{Sentence, Tree}
 use Rattle.cd_meaning.specs.Rows.Short.{base64_decode_word, base64_encode_word, bytes_word, close_statement, collect_e, exactly_e_form, feed_statement, head_e, hold_statement, length_e, length_word, let_statement, line_e_form, lines_word, peek_e, piped, release_statement, run_statement, source_file_word, stdin_word, stdout_word, take_e, unlines_word, utf8_word, zip_sink_form, zip_source_form}
 use Rattle.cd_meaning.specs.Rows.Given.{rows, does, ends_so, puts_at, told_of}

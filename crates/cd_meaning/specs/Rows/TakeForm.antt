@@ -2,7 +2,7 @@
 use Rattle.std.specs.Prelude.{◌≡◌, ℕ, List, [], ◌∷◌, codes}
 use Rattle.cd_meaning.specs.Stream.{Value, More, Stop, Reading, ReadBad, Ending, Done, Halts, Effect, Open, Put, Close}
 use Rattle.cd_meaning.specs.Run.{effects, ending}
-use Rattle.cd_meaning.specs.Words.{AtEnd, MayGoOn, Broken}
+use Rattle.cd_meaning.specs.RunShapes.{AtEnd, MayGoOn, Broken}
 use Rattle.cd_meaning.specs.Pipes.{nodes}
 use Rattle.cd_meaning.specs.Scripts.{script_run}
 use Rattle.cd_meaning.specs.TakeForm.{take_script}

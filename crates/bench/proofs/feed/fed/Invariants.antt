@@ -1,7 +1,7 @@
 use Rattle.std.proofs.Common.{◌≡◌, MatchOption, Some}
 use Rattle.cd_elem.specs.declared.kind.Sort.TheVariants as sort
 use Rattle.cd_step.specs.Parts.{Wait}
-use Rattle.cd_elemwise.specs.Words.{kind_of}
+use Rattle.cd_elemwise.specs.Carried.{kind_of}
 use Rattle.cd_elemwise.specs.Stages.{seen_stage, stage_fits}
 use Rattle.bench.proofs.feed.fed.Given as goal
 

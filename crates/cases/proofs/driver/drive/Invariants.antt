@@ -1,6 +1,6 @@
 use Rattle.std.proofs.Common.{◌≡◌, Some}
 use Rattle.cd_step.specs.Parts.{Wait}
-use Rattle.cd_elemwise.specs.Words.{kind_of}
+use Rattle.cd_elemwise.specs.Carried.{kind_of}
 use Rattle.cd_elemwise.specs.Stages.{seen_stage, stage_fits}
 use Rattle.cases.proofs.driver.drive.Given as goal
 

@@ -4,7 +4,7 @@ use Rattle.cd_world.specs.Causes.{Rose}
 use Rattle.cd_cli.specs.declared.cause.Cause.{Cause}
 use Rattle.cd_cli.specs.declared.cause.Cause.TheVariants.{Success, NoMemory}
 use Rattle.cd_cli.specs.Cause.{words_cause}
-use Rattle.cd_cli.specs.Command.{Calls, Called, Answers, Sent}
+use Rattle.cd_cli.specs.Command.{Calls, Called, AnswersCommand, Sent}
 use Rattle.cd_cli.proofs.CommandSteps.{words_send, words_log, refused_send, refused_log, command_completes, refused_completes}
 use Rattle.cd_cli.proofs.command.conduit_main.Goals.{in-Ok+in-Run-1, in-Ok+in-Show-1, in-Err}
 use Rattle.cd_cli.proofs.command.conduit_main.Goals as goal
@@ -14,14 +14,14 @@ returns-clause-files g c = λ tells.
     let words = map string_bytes c.args.words.now in
     let files = g.W.World.files c.args.world.now in
     elim c.match-read_words.branch [
-      | in-Ok+in-Run-1 w ↦ subst (λ (cause : Cause). Sent (Answers words files.contents cause) files (g.W.World.files c.match-read_words.world)) (sym w.cause-is)
-          (subst (λ world. Sent (Answers words files.contents w.run_command-cause.result) files (g.W.World.files world)) (sym w.world-is)
+      | in-Ok+in-Run-1 w ↦ subst (λ (cause : Cause). Sent (AnswersCommand words files.contents cause) files (g.W.World.files c.match-read_words.world)) (sym w.cause-is)
+          (subst (λ world. Sent (AnswersCommand words files.contents w.run_command-cause.result) files (g.W.World.files world)) (sym w.world-is)
           (words_send words w.in-Ok.command w.run_command-cause.result files _ w.in-Ok.ensures (w.run_command-cause.ensures.files tells)))
-      | in-Ok+in-Show-1 w ↦ subst (λ (cause : Cause). Sent (Answers words files.contents cause) files (g.W.World.files c.match-read_words.world)) (sym w.cause-is)
-          (subst (λ world. Sent (Answers words files.contents w.run_command-cause.result) files (g.W.World.files world)) (sym w.world-is)
+      | in-Ok+in-Show-1 w ↦ subst (λ (cause : Cause). Sent (AnswersCommand words files.contents cause) files (g.W.World.files c.match-read_words.world)) (sym w.cause-is)
+          (subst (λ world. Sent (AnswersCommand words files.contents w.run_command-cause.result) files (g.W.World.files world)) (sym w.world-is)
           (words_send words w.in-Ok.command w.run_command-cause.result files _ w.in-Ok.ensures (w.run_command-cause.ensures.files tells)))
-      | in-Err w ↦ subst (λ (cause : Cause). Sent (Answers words files.contents cause) files (g.W.World.files c.match-read_words.world)) (sym (w.cause-is ∙ w.from-cause.ensures))
-          (subst (λ world. Sent (Answers words files.contents (words_cause w.in-Err.refusal)) files (g.W.World.files world)) (sym w.world-is) (refused_send words w.in-Err.refusal files w.in-Err.ensures))
+      | in-Err w ↦ subst (λ (cause : Cause). Sent (AnswersCommand words files.contents cause) files (g.W.World.files c.match-read_words.world)) (sym (w.cause-is ∙ w.from-cause.ensures))
+          (subst (λ world. Sent (AnswersCommand words files.contents (words_cause w.in-Err.refusal)) files (g.W.World.files world)) (sym w.world-is) (refused_send words w.in-Err.refusal files w.in-Err.ensures))
     ]
 
 pub returns-clause-log : goal.returns-clause-log

@@ -1,5 +1,5 @@
 use Rattle.std.proofs.Common.{sym, subst}
-use Rattle.cd_cli.specs.declared.words.Command.{Command}
+use Rattle.cd_cli.specs.declared.arguments.Command.{Command}
 use Rattle.cd_cli.specs.Command.{SendsFor, Sent}
 use Rattle.cd_cli.proofs.command.run_script.Goals as goal
 

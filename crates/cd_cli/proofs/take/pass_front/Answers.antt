@@ -4,7 +4,7 @@ use Rattle.std.proofs.lemmas.Result.{IfOk-from_err}
 use Rattle.cd_world.specs.declared.event.Use.TheVariants.{Reading}
 use Rattle.cd_world.specs.Live.{Open, open_as}
 use Rattle.cd_world.specs.Files.{left_at}
-use Rattle.cd_meaning.specs.Words.{AtEnd, MayGoOn}
+use Rattle.cd_meaning.specs.RunShapes.{AtEnd, MayGoOn}
 use Rattle.cd_cli.specs.Take.{Passing}
 use Rattle.cd_cli.proofs.PassSteps.{pass_none, pass_refused, pass_end, pass_turn, logs_pass, log_pass_none, log_pass_refused, log_pass_end, log_pass_stopped, log_pass_turn, refused_unbroken, enough_passed}
 use Rattle.cd_cli.proofs.SeenSteps.{goes_on_unbroken, end_unbroken}

@@ -3,7 +3,7 @@ use Rattle.std.specs.Prelude.{Contains}
 use Rattle.cd_world.specs.declared.event.Use.TheVariants.{Reading}
 use Rattle.cd_world.specs.Live.{open_as}
 use Rattle.cd_world.specs.Files.{left_at}
-use Rattle.cd_meaning.specs.Words.{MayGoOn}
+use Rattle.cd_meaning.specs.RunShapes.{MayGoOn}
 use Rattle.cd_cli.specs.Take.{Passing}
 use Rattle.cd_cli.proofs.PassSteps.{LogsPassing}
 use Rattle.cd_cli.proofs.take.pass_front.Given as goal

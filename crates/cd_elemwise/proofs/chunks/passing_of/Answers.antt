@@ -1,6 +1,6 @@
 use Rattle.cd_meaning.specs.Classes.{is_in_class}
 use Rattle.cd_meaning.specs.Stream.{Sort}
-use Rattle.cd_elemwise.specs.declared.chunks.Elements.TheVariants.{Bytes, Chars}
+use Rattle.cd_elemwise.specs.declared.chunks.ElementSlice.TheVariants.{Bytes, Chars}
 use Rattle.cd_elemwise.proofs.PlanLaws.{filtered_fits, elements_are}
 use Rattle.cd_elemwise.proofs.chunks.passing_of.Goals as goal
 

@@ -1,5 +1,5 @@
 use Rattle.std.proofs.Common.{ap, ◌∙◌, arith}
-use Rattle.cd_elemwise.specs.Words.{gathered, list_value}
+use Rattle.cd_elemwise.specs.Carried.{gathered, list_value}
 use Rattle.cd_elemwise.proofs.PlanLaws.{collect_plan, collect_end}
 use Rattle.cd_elemwise.proofs.collect.collect.Goals as goal
 

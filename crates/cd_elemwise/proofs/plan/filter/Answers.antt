@@ -1,6 +1,6 @@
 use Rattle.std.proofs.Common.{subst, filter}
 use Rattle.cd_meaning.specs.Classes.{is_in_class}
-use Rattle.cd_elemwise.specs.Words.{IsChunkOf}
+use Rattle.cd_elemwise.specs.Carried.{IsChunkOf}
 use Rattle.cd_elemwise.proofs.PlanLaws.{filter_plan, filter_none}
 use Rattle.cd_elemwise.proofs.plan.filter.Goals as goal
 

@@ -1,5 +1,5 @@
-use Rattle.cd_meaning.proofs.LawfulTrees.{tree_is_lawful}
-use Rattle.cd_meaning.proofs.LawfulWords.{word_is_lawful}
+use Rattle.cd_meaning.proofs.Lawful.Trees.{tree_is_lawful}
+use Rattle.cd_meaning.proofs.Lawful.Words.{word_is_lawful}
 use Rattle.cd_meaning.proofs.laws.need_bound.Goals as goal
 
 pub returns-clause-words_rise : goal.returns-clause-words_rise

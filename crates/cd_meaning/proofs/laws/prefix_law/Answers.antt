@@ -1,5 +1,5 @@
-use Rattle.cd_meaning.proofs.LawfulTrees.{tree_is_lawful, script_goes_on}
-use Rattle.cd_meaning.proofs.LawfulWords.{word_is_lawful}
+use Rattle.cd_meaning.proofs.Lawful.Trees.{tree_is_lawful, script_goes_on}
+use Rattle.cd_meaning.proofs.Lawful.Words.{word_is_lawful}
 use Rattle.cd_meaning.proofs.laws.prefix_law.Goals as goal
 
 pub returns-clause-words : goal.returns-clause-words

@@ -1,5 +1,5 @@
-use Rattle.cd_meaning.proofs.Grouped.{chain_grouped, chain_in_a_row}
-use Rattle.cd_meaning.proofs.Known.{fuse_assoc}
+use Rattle.cd_meaning.proofs.Weaves.Grouped.{chain_grouped, chain_in_a_row}
+use Rattle.cd_meaning.proofs.Weaves.Laws.{fuse_assoc}
 use Rattle.cd_meaning.proofs.laws.weave_associativity.Goals as goal
 
 pub returns-clause-components : goal.returns-clause-components

@@ -1,5 +1,5 @@
 use Rattle.std.proofs.Common.{Err}
-use Rattle.cd_script.proofs.Loop.{advances, refuses, ends, gives}
+use Rattle.cd_script.proofs.ReaderSteps.{advances, refuses, ends, gives}
 use Rattle.cd_script.proofs.reader.parse_tokens.Goals as goal
 
 pub returns-in-Err-clause-exact : goal.returns-in-Err-clause-exact
@@ -20,10 +20,10 @@ loop-count-preserved c = record {
 }
 
 pub returns-clause-exact : goal.returns-clause-exact
-returns-clause-exact c = ends c.args.lexemes.now c.loop-count.count c.loop-count.reader c.args.whole c.args.end c.ending.result
-    c.loop-count-test.false c.loop-count.auto.count-end c.loop-count.invariant.behind c.ending.ensures
+returns-clause-exact c = ends c.args.lexemes.now c.loop-count.count c.loop-count.reader c.args.whole c.args.end c.finish.result
+    c.loop-count-test.false c.loop-count.auto.count-end c.loop-count.invariant.behind c.finish.ensures
 
 pub returns-clause-only : goal.returns-clause-only
-returns-clause-only c = gives c.args.lexemes.now c.args.whole c.args.end c.ending.result
-    (ends c.args.lexemes.now c.loop-count.count c.loop-count.reader c.args.whole c.args.end c.ending.result
-    c.loop-count-test.false c.loop-count.auto.count-end c.loop-count.invariant.behind c.ending.ensures)
+returns-clause-only c = gives c.args.lexemes.now c.args.whole c.args.end c.finish.result
+    (ends c.args.lexemes.now c.loop-count.count c.loop-count.reader c.args.whole c.args.end c.finish.result
+    c.loop-count-test.false c.loop-count.auto.count-end c.loop-count.invariant.behind c.finish.ensures)

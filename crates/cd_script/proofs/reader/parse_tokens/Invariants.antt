@@ -1,5 +1,5 @@
 use Rattle.std.proofs.Common.{◌≤◌}
-use Rattle.cd_script.specs.Reading.{IsBehind}
+use Rattle.cd_script.specs.Reader.{IsBehind}
 use Rattle.cd_script.proofs.reader.parse_tokens.Given as goal
 
 abbrev pub invariant-loop-count : goal.invariant-loop-count

@@ -1,5 +1,5 @@
 use Rattle.std.proofs.Common.{subst, drop}
-use Rattle.cd_elemwise.specs.Words.{IsChunkOf}
+use Rattle.cd_elemwise.specs.Carried.{IsChunkOf}
 use Rattle.cd_elemwise.specs.Plans.{IsPlan}
 use Rattle.cd_elemwise.specs.Stages.{carried}
 use Rattle.cd_elemwise.proofs.StageLaws.{pass_whole, pass_front, need_stage, give_stage, done_stage}

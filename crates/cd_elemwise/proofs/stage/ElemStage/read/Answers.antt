@@ -1,6 +1,6 @@
 use Rattle.std.proofs.Common.{refl, subst, sym, ◌∙◌, arith}
-use Rattle.cd_elemwise.specs.declared.state.State.TheVariants as state
-use Rattle.cd_elemwise.specs.Words.{Doing, gathered, kind_of, list_sort}
+use Rattle.cd_elemwise.specs.declared.state.WordState.TheVariants as state
+use Rattle.cd_elemwise.specs.Carried.{Doing, gathered, kind_of, list_sort}
 use Rattle.cd_elemwise.specs.Plans.{IsPlan}
 use Rattle.cd_elemwise.specs.Stages.{carried}
 use Rattle.cd_step.specs.Parts.{IsGiven}

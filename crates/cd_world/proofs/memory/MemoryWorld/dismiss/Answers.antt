@@ -1,7 +1,7 @@
 use Rattle.std.proofs.Common.{◌≡◌, ◌<◌, length, refl, sym, ◌∙◌, ap, arith, if◌then◌else◌, ◌==◌}
 use Rattle.std.specs.Prelude.{map}
 use Rattle.cd_world.specs.declared.event.Descriptor.{Descriptor}
-use Rattle.cd_world.specs.declared.memory.Side.{Side}
+use Rattle.cd_world.specs.declared.memory.OpenMember.{OpenMember}
 use Rattle.cd_world.specs.declared.table.OpenFile.{OpenFile}
 use Rattle.cd_world.specs.Memory.{counts_of}
 use Rattle.cd_world.specs.Store.{member_name}
@@ -49,5 +49,5 @@ returns-clause-member c =
     let place = c.remove-place.result.0 in
     let d = c.remove-place.result.1 in
     let within : place < length entries = omega (arith, c.remove-place.ensures.within, c.args.self.now.table.files.ok.0) in
-    ap (λ (s : Side). s.member) c.remove-side.ensures.value ∙ paired-at sides entries c.args.self.now.paired place c.remove-side.result d within
+    ap (λ (s : OpenMember). s.member) c.remove-side.ensures.value ∙ paired-at sides entries c.args.self.now.paired place c.remove-side.result d within
     ∙ ap (λ (e : OpenFile). member_name e.name) (c.remove-place.ensures.item d)

@@ -1,6 +1,6 @@
 use Rattle.std.proofs.Common.{◌≡◌, ◌<◌, ◌+◌, ◌==◌, ℕ, List, Err, false, length, min, drop, refl, sym, ◌∙◌, ap, subst, arith, if◌then◌else◌}
 use Rattle.cd_world.specs.declared.event.Use.TheVariants.{Reading}
-use Rattle.cd_world.specs.declared.memory.Side.{Side}
+use Rattle.cd_world.specs.declared.memory.OpenMember.{OpenMember}
 use Rattle.cd_world.specs.declared.plan.Call.TheVariants.{Reading as CallReading}
 use Rattle.cd_world.specs.declared.store.Store.{Store}
 use Rattle.cd_world.specs.declared.table.OpenFile.{OpenFile}
@@ -31,8 +31,8 @@ returns-in-Ok-clause-files c = λ name has.
     let within : place < length entries = omega (arith, c.place_of-place.ensures.within, w.table.files.ok.0) in
     let found = c.place_of-place.ensures.found entry in
     let side = c.index-2.result.now in
-    let member = c.as_str-member.ensures ∙ ap (λ (s : Side). s.member) c.index-2.ensures ∙ member-is sides entries w.paired w.table.last w.table.rising place within c.args.from entry found side Reading name has in
-    let given = given-is sides entries w.paired w.table.last w.table.rising place within c.args.from entry found c.index.result.now ∙ ap (λ (s : Side). s.given) (sym c.index.ensures) in
+    let member = c.as_str-member.ensures ∙ ap (λ (s : OpenMember). s.member) c.index-2.ensures ∙ member-is sides entries w.paired w.table.last w.table.rising place within c.args.from entry found side Reading name has in
+    let given = given-is sides entries w.paired w.table.last w.table.rising place within c.args.from entry found c.index.result.now ∙ ap (λ (s : OpenMember). s.given) (sym c.index.ensures) in
     let left : drop c.index.result.now.given (bytes_in (held_in w c.as_str-member.result.now)) ≡ left_at c.args.from.0 name (files_in w) = λ i. drop (sym given i) (bytes_in (held_in w (member i))) in
     let count = c.len-count.result in (
       subst (λ (n : ℕ). Gives (left_at c.args.from.0 name (files_in w)) n c.give.new.into) (sym c.len-count.ensures) (subst (λ (l : List ℕ). Gives l (length c.in-Ok.told) c.give.new.into) left c.in-Ok.ensures.gives),
@@ -52,8 +52,8 @@ returns-in-Ok-clause-by_plan c = λ name has.
     let within : place < length entries = omega (arith, c.place_of-place.ensures.within, w.table.files.ok.0) in
     let found = c.place_of-place.ensures.found entry in
     let side = c.index-2.result.now in
-    let member = c.as_str-member.ensures ∙ ap (λ (s : Side). s.member) c.index-2.ensures ∙ member-is sides entries w.paired w.table.last w.table.rising place within c.args.from entry found side Reading name has in
-    let given = given-is sides entries w.paired w.table.last w.table.rising place within c.args.from entry found c.index.result.now ∙ ap (λ (s : Side). s.given) (sym c.index.ensures) in
+    let member = c.as_str-member.ensures ∙ ap (λ (s : OpenMember). s.member) c.index-2.ensures ∙ member-is sides entries w.paired w.table.last w.table.rising place within c.args.from entry found side Reading name has in
+    let given = given-is sides entries w.paired w.table.last w.table.rising place within c.args.from entry found c.index.result.now ∙ ap (λ (s : OpenMember). s.given) (sym c.index.ensures) in
     let left : drop c.index.result.now.given (bytes_in (held_in w c.as_str-member.result.now)) ≡ left_at c.args.from.0 name (files_in w) = λ i. drop (sym given i) (bytes_in (held_in w (member i))) in
     record {
       fails = subst (λ (m : List ℕ). fails_next CallReading (plan_in w m) ≡ false) member c.in-Ok.ensures.fails;
@@ -70,7 +70,7 @@ returns-in-Ok-clause-plans c = λ name has.
     let within : place < length entries = omega (arith, c.place_of-place.ensures.within, w.table.files.ok.0) in
     let found = c.place_of-place.ensures.found entry in
     let side = c.index-2.result.now in
-    let member = c.as_str-member.ensures ∙ ap (λ (s : Side). s.member) c.index-2.ensures ∙ member-is sides entries w.paired w.table.last w.table.rising place within c.args.from entry found side Reading name has in
+    let member = c.as_str-member.ensures ∙ ap (λ (s : OpenMember). s.member) c.index-2.ensures ∙ member-is sides entries w.paired w.table.last w.table.rising place within c.args.from entry found side Reading name has in
     c.in-Ok.ensures.plans ∙ ap (λ (m : List ℕ). counted CallReading m (plan_in w)) member
 
 pub returns-in-Err-clause-files : goal.returns-in-Err-clause-files
@@ -86,7 +86,7 @@ returns-in-Err-clause-by_plan c = λ name has.
     let within : place < length entries = omega (arith, c.place_of-place.ensures.within, w.table.files.ok.0) in
     let found = c.place_of-place.ensures.found entry in
     let side = c.index-2.result.now in
-    let member = c.as_str-member.ensures ∙ ap (λ (s : Side). s.member) c.index-2.ensures ∙ member-is sides entries w.paired w.table.last w.table.rising place within c.args.from entry found side Reading name has in
+    let member = c.as_str-member.ensures ∙ ap (λ (s : OpenMember). s.member) c.index-2.ensures ∙ member-is sides entries w.paired w.table.last w.table.rising place within c.args.from entry found side Reading name has in
     record {
       fails = subst (λ (e : WorldError). FailsWhere {T = ℕ} (fails_next CallReading (plan_in w (member_name name))) (Err e)) (sym c.refuse.ensures.same)
           (fails-error (List ℕ) ℕ _ c.in-Err.error (subst (λ (m : List ℕ). FailsWhere {T = List ℕ} (fails_next CallReading (plan_in w m)) (Err c.in-Err.error)) member c.in-Err.ensures.fails));
@@ -103,7 +103,7 @@ returns-in-Err-clause-plans c = λ name has.
     let within : place < length entries = omega (arith, c.place_of-place.ensures.within, w.table.files.ok.0) in
     let found = c.place_of-place.ensures.found entry in
     let side = c.index-2.result.now in
-    let member = c.as_str-member.ensures ∙ ap (λ (s : Side). s.member) c.index-2.ensures ∙ member-is sides entries w.paired w.table.last w.table.rising place within c.args.from entry found side Reading name has in
+    let member = c.as_str-member.ensures ∙ ap (λ (s : OpenMember). s.member) c.index-2.ensures ∙ member-is sides entries w.paired w.table.last w.table.rising place within c.args.from entry found side Reading name has in
     ap (λ (s : Store). plan_of s.members.items) c.refuse.ensures.store ∙ c.in-Err.ensures.plans
     ∙ after-error (List ℕ) ℕ c.in-Err.error (counted CallReading c.as_str-member.result.now) (plan_in w)
     ∙ (λ i. after {T = ℕ} (Err (sym c.refuse.ensures.same i)) (counted CallReading (member i)) (plan_in w))

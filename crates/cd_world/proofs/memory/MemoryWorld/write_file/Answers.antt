@@ -1,6 +1,6 @@
 use Rattle.std.proofs.Common.{◌≡◌, ◌<◌, ◌++◌, ℕ, List, Err, Some, false, length, take, sym, ◌∙◌, ap, subst, arith}
 use Rattle.cd_world.specs.declared.event.Use.TheVariants.{Writing}
-use Rattle.cd_world.specs.declared.memory.Side.{Side}
+use Rattle.cd_world.specs.declared.memory.OpenMember.{OpenMember}
 use Rattle.cd_world.specs.declared.plan.Call.TheVariants.{Writing as CallWriting}
 use Rattle.cd_world.specs.declared.store.Store.{Store}
 use Rattle.cd_world.specs.declared.table.OpenFile.{OpenFile}
@@ -23,7 +23,7 @@ returns-in-Ok-clause-file c = λ name has.
     let within : place < length entries = omega (arith, c.place_of-place.ensures.within, w.table.files.ok.0) in
     let found = c.place_of-place.ensures.found entry in
     let side = c.index.result.now in
-    let member = c.as_str-member.ensures ∙ ap (λ (s : Side). s.member) c.index.ensures ∙ member-is sides entries w.paired w.table.last w.table.rising place within c.args.to entry found side Writing name has in
+    let member = c.as_str-member.ensures ∙ ap (λ (s : OpenMember). s.member) c.index.ensures ∙ member-is sides entries w.paired w.table.last w.table.rising place within c.args.to entry found side Writing name has in
     let told = c.in-Ok.ensures.told ∙ ap (λ (n : ℕ). take n c.args.bytes.now) (sym c.len-count.ensures) in
     file-changed _ _ _ _ name (Some (bytes_in (held_in w (member_name name)) ++ take c.len-count.result c.args.bytes.now))
     (c.in-Ok.ensures.ok ∙ (λ i. with_file (member i) (Some (bytes_in (held_in w (member i)) ++ told i)) (held_in w)))
@@ -38,7 +38,7 @@ returns-in-Ok-clause-by_plan c = λ name has.
     let within : place < length entries = omega (arith, c.place_of-place.ensures.within, w.table.files.ok.0) in
     let found = c.place_of-place.ensures.found entry in
     let side = c.index.result.now in
-    let member = c.as_str-member.ensures ∙ ap (λ (s : Side). s.member) c.index.ensures ∙ member-is sides entries w.paired w.table.last w.table.rising place within c.args.to entry found side Writing name has in
+    let member = c.as_str-member.ensures ∙ ap (λ (s : OpenMember). s.member) c.index.ensures ∙ member-is sides entries w.paired w.table.last w.table.rising place within c.args.to entry found side Writing name has in
     let told = c.in-Ok.ensures.told ∙ ap (λ (n : ℕ). take n c.args.bytes.now) (sym c.len-count.ensures) in
     record {
       by_plan = record {
@@ -62,7 +62,7 @@ returns-in-Err-clause-by_plan c = λ name has.
     let within : place < length entries = omega (arith, c.place_of-place.ensures.within, w.table.files.ok.0) in
     let found = c.place_of-place.ensures.found entry in
     let side = c.index.result.now in
-    let member = c.as_str-member.ensures ∙ ap (λ (s : Side). s.member) c.index.ensures ∙ member-is sides entries w.paired w.table.last w.table.rising place within c.args.to entry found side Writing name has in
+    let member = c.as_str-member.ensures ∙ ap (λ (s : OpenMember). s.member) c.index.ensures ∙ member-is sides entries w.paired w.table.last w.table.rising place within c.args.to entry found side Writing name has in
     record {
       by_plan = record {
         fails = subst (λ (e : WorldError). FailsWhere {T = ℕ} (fails_next CallWriting (plan_in w (member_name name))) (Err e)) (sym c.refuse.ensures.same)

@@ -1,7 +1,0 @@
-use Rattle.std.proofs.Common.{length, sym, arith}
-use Rattle.std.specs.Char.{is_ascii_alphanumeric}
-use Rattle.std.proofs.lemmas.List.Sums.{prefix_len_is}
-use Rattle.cd_lex.proofs.scan.letters.Goals as goal
-
-pub returns-clause-value : goal.returns-clause-value
-returns-clause-value c = sym (prefix_len_is is_ascii_alphanumeric c.args.text.now (length c.args.text.now) 0 (omega arith) (λ k h. c.loop-place.invariant k (omega (arith, h, c.loop-place-test.false))) (λ h. absurd (omega (arith, h))))

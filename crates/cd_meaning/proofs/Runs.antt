@@ -1,0 +1,12 @@
+-- Each formula of a word and of a form is a run that a scan or a weave makes.
+pub mod Bases
+pub mod Elements
+pub mod Keeps
+pub mod Pieces
+pub mod Results
+pub mod Scans
+pub mod Sequences
+pub mod Shapes
+pub mod Sources
+pub mod Splitters
+pub mod Texts

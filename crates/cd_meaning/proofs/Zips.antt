@@ -1,0 +1,6 @@
+-- Zips: their runs and their moves.
+pub mod EndedMoves
+pub mod Moves
+pub mod Runs
+pub mod SinkMoves
+pub mod SourceMoves
