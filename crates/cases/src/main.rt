@@ -35,7 +35,7 @@ impl Table {
     fn answer(self, alloc: Global, case: &str, lines: &mut String) -> Result<(), CaseError> {
         match self {
             Table::Texts => texts::answer(alloc, case, lines),
-            Table::Words => words::answer(alloc, case, lines),
+            Table::Words => word_runs::answer(alloc, case, lines),
             Table::Commands => commands::answer(alloc, case, lines),
         }
     }
