@@ -268,11 +268,20 @@ def unwrapped(text):
     return text[1:-1] if text.startswith("(") else text
 
 
+LITERALS = ("begins", "ends", "prefix", "suffix", "intersperse_word")
+
+
+def opened(left, sort):
+    """What a word's run is computed with that is opened for it: a literal on texts is its characters."""
+    names = ["encode"] if "utf8_encode_word" in left else []
+    names += ["chars"] if sort == "Text" and any(f"({word} " in left for word in LITERALS) else []
+    return [f"unfolding {' '.join(names)}"] if names else []
+
+
 def word_lines(line, case):
     name = f"word_{line}"
     left = f"word_run {word(case['word'])} Sort.{case['sort']} {items(case['input'])} {end(case['end'])}"
-    opened = ["unfolding encode"] if "utf8_encode_word" in left else []
-    return [f"-- {case['text']}", *wrapped(f"{name} : {left} ≡ {unwrapped(run(case))}"), *opened, f"{name} = runs_so _ _ _ _", ""]
+    return [f"-- {case['text']}", *wrapped(f"{name} : {left} ≡ {unwrapped(run(case))}"), *opened(left, case["sort"]), f"{name} = runs_so _ _ _ _", ""]
 
 
 def script_lines(line, case):
@@ -285,7 +294,7 @@ def script_lines(line, case):
         left = f"{name} {seen(one['seen'])}"
         for what, right in (("effects", effects(one["effects"])), ("ending", ending(one["end"]))):
             lemma = f"{name}_{what}_{number}"
-            lines += [*wrapped(f"{lemma} : {what}_of {left} ≡ {unwrapped(right)}"), "unfolding digits encode", f"{lemma} = {what}_so _ _", ""]
+            lines += [*wrapped(f"{lemma} : {what}_of {left} ≡ {unwrapped(right)}"), "unfolding digits encode chars", f"{lemma} = {what}_so _ _", ""]
     return lines
 
 
@@ -293,10 +302,11 @@ IMPORTS = [
     ("Rattle.std.specs.Prelude", "List [] ◌∷◌ ◌≡◌ codes map true false"),
     ("Rattle.std.specs.Fmt", "digits"),
     ("lib.Utf8", "encode"),
+    ("Rattle.std.specs.Str", "chars"),
     (f"{SPECS}.Stream", "Sort Elem Piece Value absent present NoValues Another Input Reading More Stop bad_text bad_hex "
      "bad_base64 ReadBad Long Ended Halted Done Halts Out Do Open Put Close"),
     (f"{SPECS}.Run", "stamp Then Ends"),
-    (f"{SPECS}.Words", "AtEnd MayGoOn Broken TooLong"),
+    (f"{SPECS}.RunShapes", "AtEnd MayGoOn Broken TooLong"),
     (f"{SPECS}.Rows.Trees", "Sentence"),
     (f"{SPECS}.Rows.Short", " ".join([*WORDS.values(), *CLASSES.values(), *TESTS.values(), *MAPS.values(), "not_class", "not_test",
      *OPERATORS.values(), *FORMS.values(), *STATEMENTS.values()])),

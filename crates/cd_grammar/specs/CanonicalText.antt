@@ -1,6 +1,7 @@
 -- The canonical text of a script.
 use Rattle.std.specs.Prelude.{ℕ, Bool, true, false, ◌&&◌, ◌||◌, if◌then◌else◌, List, [], ◌∷◌, ◌++◌}
 use Rattle.std.specs.List.{flat_map}
+use Rattle.cd_elem.specs.Ascii.{newline}
 use Rattle.cd_elem.specs.declared.script.Stmt.{Stmt}
 use Rattle.cd_elem.specs.declared.token.Keyword.TheVariants as keyword
 use Rattle.cd_elem.specs.declared.token.Sign.TheVariants as sign
@@ -45,7 +46,7 @@ spaced [] = []
 spaced (t ∷ ts) = spelled t ++ spelled_behind t ts
 
 abbrev pub statement_line : Stmt → List ℕ
-statement_line s = spaced (canonical_statement s) ++ 10 ∷ []
+statement_line s = spaced (canonical_statement s) ++ newline ∷ []
 
 abbrev pub canonical_text : List Stmt → List ℕ
 canonical_text ss = flat_map statement_line ss

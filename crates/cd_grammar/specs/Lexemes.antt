@@ -1,17 +1,18 @@
 -- The tokens of a text.
 use Rattle.std.specs.Prelude.{◌≡◌, ℕ, ◌+◌, ◌<◌, Bool, true, false, not, ◌&&◌, ◌||◌, ◌==◌, ◌⊎◌, if◌then◌else◌, List, [], ◌∷◌, length, drop, Some}
 use Rattle.std.specs.Char.{is_ascii_digit}
+use Rattle.cd_elem.specs.Ascii.{newline}
 use Rattle.cd_elem.specs.declared.token.Token.{Token}
 use Rattle.cd_elem.specs.declared.token.Token.TheVariants as token
 use Rattle.cd_elem.specs.declared.token.Lexeme.{Lexeme}
 use Rattle.cd_grammar.specs.Tokens.{IsLongest, HasNoToken}
 
 abbrev pub is_blank : ℕ → Bool
-is_blank c = c == 32 || (c == 9 || (c == 13 || c == 10))
+is_blank c = c == 32 || (c == 9 || (c == 13 || c == newline))
 
 -- whether the next byte is in a comment too, and whether this one is in the gap
 abbrev pub comment_goes_on : Bool → ℕ → Bool
-comment_goes_on true c = not (c == 10)
+comment_goes_on true c = not (c == newline)
 comment_goes_on false c = c == 35
 
 abbrev pub is_in_gap : Bool → ℕ → Bool

@@ -1,6 +1,7 @@
 -- The values of literals.
 use Rattle.std.specs.Prelude.{ℕ, ◌+◌, ◌-◌, ◌*◌, ◌==◌, nat_lt, nat_le, ◌&&◌, if◌then◌else◌, List, [], ◌∷◌, ◌++◌, Option, Some, None, encode_utf8}
 use lib.Utf8.{scalar}
+use Rattle.cd_elem.specs.Ascii.{newline}
 use Rattle.cd_elem.specs.Base16.{hex_value}
 
 -- the byte that a short escape stands for
@@ -8,7 +9,7 @@ abbrev pub short_escape : ℕ → Option ℕ
 short_escape c =
     if c == 92 then Some 92
     else (if c == 34 then Some 34
-    else (if c == 110 then Some 10
+    else (if c == 110 then Some newline
     else (if c == 114 then Some 13
     else (if c == 116 then Some 9 else None))))
 
@@ -37,7 +38,7 @@ abbrev mutual
   literal_value (c ∷ cs) =
       if c == 34 then no_more cs
       else (if c == 92 then escape_value cs
-      else (if c == 10 then None else in_front (c ∷ []) (literal_value cs)))
+      else (if c == newline then None else in_front (c ∷ []) (literal_value cs)))
 
   -- behind a backslash
   pub escape_value : List ℕ → Option (List ℕ)

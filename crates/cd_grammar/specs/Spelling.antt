@@ -1,6 +1,7 @@
 -- How tokens are written.
 use Rattle.std.specs.Prelude.{ℕ, ◌==◌, ◌||◌, nat_lt, if◌then◌else◌, List, [], ◌∷◌, ◌++◌, Some, None, codes, decimal}
 use Rattle.std.specs.List.{flat_map}
+use Rattle.cd_elem.specs.Ascii.{newline}
 use Rattle.cd_elem.specs.declared.script.Join.{Join}
 use Rattle.cd_elem.specs.declared.script.Join.TheVariants as join
 use Rattle.cd_elem.specs.declared.token.Opening.{Opening}
@@ -205,7 +206,7 @@ abbrev pub escaped : ℕ → List ℕ
 escaped c =
     if c == 92 then codes "\\\\"
     else (if c == 34 then codes "\\\""
-    else (if c == 10 then codes "\\n"
+    else (if c == newline then codes "\\n"
     else (if c == 13 then codes "\\r"
     else (if c == 9 then codes "\\t"
     else (if nat_lt c 16 then by_digits (hex_digit c ∷ [])

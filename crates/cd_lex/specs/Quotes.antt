@@ -3,6 +3,7 @@ use Rattle.std.specs.Prelude.{ℕ, ◌+◌, ◌*◌, ◌<◌, ◌≤◌, ◌==�
 use lib.Utf8.{scalar}
 use Rattle.cd_elem.specs.declared.token.Token.{Token}
 use Rattle.cd_elem.specs.declared.token.Token.TheVariants as token
+use Rattle.cd_elem.specs.Ascii.{newline}
 use Rattle.cd_elem.specs.Base16.{hex_value}
 use Rattle.cd_grammar.specs.Literals.{short_escape}
 use Rattle.cd_lex.specs.declared.literal.LiteralState.{LiteralState}
@@ -14,7 +15,7 @@ abbrev pub plain : LiteralState
 plain = Plain
 
 abbrev pub read_plain : ℕ → LiteralStep
-read_plain c = if c == 34 then Closes else (if c == 92 then Goes Escape else (if c == 10 then Fails else Byte c))
+read_plain c = if c == 34 then Closes else (if c == 92 then Goes Escape else (if c == newline then Fails else Byte c))
 
 abbrev pub escape_of : Option ℕ → ℕ → LiteralStep
 escape_of (Some b) c = Byte b

@@ -6,7 +6,7 @@ use Rattle.cd_meaning.specs.Stream.{Item, Elem, Value, Ended, Done, Act, Do, Eff
 use Rattle.cd_meaning.specs.Run.{Stamp, start, Run, Then, Ends, Component, outs, end_of, outs_at, effects, ending, acts_at}
 use Rattle.cd_meaning.specs.RunShapes.{passes, unit_of, Mark, AtEnd, MayGoOn, Broken, TooLong, Told, Seen}
 use Rattle.cd_meaning.specs.ElementWords.{taken}
-use Rattle.cd_meaning.specs.Sources.{source_file, file_end, puts, stdout}
+use Rattle.cd_meaning.specs.Sources.{source_file, source_end, puts, stdout}
 use Rattle.cd_meaning.specs.Fusion.{fuse, fuse_at, fed}
 use Rattle.cd_meaning.specs.Places.{Reads, WritesOutput, Place, sent_to, told_whole, whole}
 use Rattle.cd_meaning.specs.Pipes.{nodes}
@@ -30,13 +30,13 @@ fuse_puts s site r = ap (fuse_at s r) (each_is_scan (puts site) (outs r) (end_of
 -- what comes behind the open
 abbrev pub front_run : List ℕ → Mark → ℕ → Run
 front_run bytes mark zero = Ends start (Done Value.Unit)
-front_run [] mark (suc n) = file_end 1 mark
+front_run [] mark (suc n) = source_end 1 (Do (Close 1) ∷ []) mark
 front_run (b ∷ bytes) mark (suc n) = Then start (Do (Put 2 b)) (front_run bytes mark n)
 
 abbrev pub both_words : ℕ → List Item → Run → Run
 both_words n l r = through (each_scan (puts 2)) start tt (through (first_scan passes unit_of) start (n, l) r)
 
-source_front : (bytes : List ℕ) (mark : Mark) (n : ℕ) (l : List Item) → both_words n l (outs_at start (map Elem bytes) (file_end 1 mark)) ≡ front_run bytes mark n
+source_front : (bytes : List ℕ) (mark : Mark) (n : ℕ) (l : List Item) → both_words n l (outs_at start (map Elem bytes) (source_end 1 (Do (Close 1) ∷ []) mark)) ≡ front_run bytes mark n
 source_front [] AtEnd zero l = refl
 source_front [] MayGoOn zero l = refl
 source_front [] Broken zero l = refl

@@ -1,5 +1,6 @@
 -- Classes and maps of elements, tests and maps of pieces.
 use Rattle.std.specs.Prelude.{ℕ, ◌+◌, ◌-◌, ◌%◌, ◌==◌, nat_lt, nat_le, Bool, not, ◌&&◌, ◌||◌, if◌then◌else◌, List, ◌++◌, length, take, drop, reverse, bit_xor, bytes_eq}
+use Rattle.cd_elem.specs.Ascii.{newline}
 use Rattle.cd_elem.specs.declared.word.Class.{Class}
 use Rattle.cd_elem.specs.declared.word.ClassName.{ClassName}
 use Rattle.cd_elem.specs.declared.word.ByteMap.{ByteMap}
@@ -45,7 +46,7 @@ is_named ClassName.Alpha c = alpha c
 is_named ClassName.Alnum c = alnum c
 is_named ClassName.Hexdigit c = hexdigit c
 is_named ClassName.Space c = space c
-is_named ClassName.Newline c = c == 10
+is_named ClassName.Newline c = c == newline
 is_named (ClassName.Is one) c = c == one
 is_named (ClassName.Below n) c = nat_lt c n
 

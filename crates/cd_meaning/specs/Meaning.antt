@@ -90,8 +90,9 @@ sequence_form = beside sequence
 abbrev pub exactly_form : ℕ → Meaning → Meaning
 exactly_form n = within (exactly n)
 
+-- `exactlyE` counts elements as `exactly` counts pieces
 abbrev pub exactly_e_form : ℕ → Meaning → Meaning
-exactly_e_form n = within (exactly n)
+exactly_e_form = exactly_form
 
 abbrev pub line_e_form : Meaning → Meaning
 line_e_form = within line
@@ -116,5 +117,6 @@ zip_source_form literal a b =
 abbrev pub zip_sink_form : Meaning → Meaning → Meaning
 zip_sink_form = beside zip_sink
 
+-- `zipConduit` is the same of parts that give values
 abbrev pub zip_conduit_form : Meaning → Meaning → Meaning
-zip_conduit_form = beside zip_sink
+zip_conduit_form = zip_sink_form

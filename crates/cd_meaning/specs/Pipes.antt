@@ -19,7 +19,7 @@ joined Join.Both = piped_both
 joined Join.Up = piped_up
 joined Join.Asked = piped_asked
 
--- `a op (b op c)`; no part at all passes on what it takes
+-- `a op (b op c)`; no part at all, which no text has, passes on what it takes
 abbrev pub all_of : (Meaning → Meaning → Meaning) → List Meaning → Meaning
 all_of op [] = plain same (λ k. passed)
 all_of op (a ∷ []) = a

@@ -43,7 +43,7 @@ while p f xs e =
 abbrev pub whole : (List Item → Value) → Component
 whole v xs e = past (length xs) e (v xs)
 
--- the number of an element, and the elements of a piece
+-- the number of an element, and the elements of a piece; the typing lets no word ask a piece for its number or an element for its elements
 abbrev pub number : Item → ℕ
 number (Elem n) = n
 number (Piece xs) = 0

@@ -1,5 +1,6 @@
 -- What statements and scripts mean.
 use Rattle.std.specs.Prelude.{ℕ, suc, ◌+◌, List, [], ◌∷◌, ◌++◌, codes, length, map, bytes_eq, if◌then◌else◌, None}
+use Rattle.cd_elem.specs.Ascii.{newline}
 use Rattle.cd_elem.specs.declared.script.Stmt.{Stmt}
 use Rattle.cd_meaning.specs.Stream.{Flow, Value, Ended, Done, Halts, Act, Out, Do, Open, Put, Close}
 use Rattle.cd_meaning.specs.Run.{Stamp, start, Run, Then, Ends, Component, acts_at, effects}
@@ -13,7 +14,7 @@ use Rattle.cd_meaning.specs.Pipes.{pipe_meaning}
 -- what is printed of the value of a statement
 abbrev pub value_puts : Value → List Act
 value_puts Value.Unit = []
-value_puts v = map (λ b. Do (Put 0 b)) (codes "= " ++ value_text v ++ 10 ∷ [])
+value_puts v = map (λ b. Do (Put 0 b)) (codes "= " ++ value_text v ++ newline ∷ [])
 
 -- the effects of a run, then what k says of its stamp and value
 abbrev pub goes_on : Run → (Stamp → Value → Run) → Run
@@ -87,7 +88,7 @@ statement_meaning (Stmt.CloseSeal name p) = close_statement name (pipe_meaning p
 statement_meaning (Stmt.Hold name file) = hold_statement name
 statement_meaning (Stmt.Release name) = release_statement name
 
--- before the first statement
+-- before the first statement; the typing lets none ask for a name that none gave
 abbrev pub first_state : ScriptState
 first_state = record { site = 1; sealed = λ name. Ends start (Done Value.Unit); flow = λ name. None; key = λ name. 0 }
 

@@ -1,5 +1,6 @@
 -- Sections and sequences: parts that read a part of one input each.
 use Rattle.std.specs.Prelude.{ℕ, suc, ◌+◌, ◌==◌, max, not, if◌then◌else◌, length, drop}
+use Rattle.cd_elem.specs.Ascii.{newline}
 use Rattle.cd_meaning.specs.Stream.{Value, Done}
 use Rattle.cd_meaning.specs.Run.{Stamp, stamp, Ends, Component, restamp, follow, past}
 use Rattle.cd_meaning.specs.RunShapes.{each, passes, front, number}
@@ -13,7 +14,7 @@ exactly n = fuse_drained second_value (taken n)
 -- the elements before the first newline, which is taken too
 abbrev pub one_line : Component
 one_line xs e =
-    let line = front (λ x. not (number x == 10)) xs in
+    let line = front (λ x. not (number x == newline)) xs in
     let k = length line in
     each passes 0 line (if k == length xs then past k e Value.Unit else Ends (stamp (suc k) (suc k)) (Done Value.Unit))
 

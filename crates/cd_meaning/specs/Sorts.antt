@@ -1,8 +1,8 @@
 -- What a stream's sort decides: results, literals, and the sorts that come behind a word.
-use Rattle.std.specs.Prelude.{ℕ, zero, suc, nat_lt, if◌then◌else◌, List, [], ◌∷◌, map, Some, None}
+use Rattle.std.specs.Prelude.{ℕ, List, [], ◌∷◌, map, Some, None}
+use Rattle.std.specs.Str.{chars}
 use Rattle.cd_meaning.specs.Stream.{Item, Elem, Piece, Sort, Flow, Value, Values, NoValues, Another}
 use Rattle.cd_meaning.specs.RunShapes.{number, elements}
-use Rattle.cd_meaning.specs.Text.{first_bits, more_bits}
 
 -- where nothing comes, a list of pieces counts as one of blocks
 abbrev pub sort_of : Flow → Sort
@@ -47,27 +47,12 @@ list_of Sort.Text xs = Value.ListV (each_value Sort.Text xs)
 
 -- ---- literals: given as the bytes of their text
 
--- how many bytes follow a character's first
-abbrev pub bytes_behind : ℕ → ℕ
-bytes_behind b = if nat_lt b 128 then 0 else (if nat_lt b 224 then 1 else (if nat_lt b 240 then 2 else 3))
-
--- n bytes of a character are still to come, and c is the number of its bytes so far
-abbrev pub characters_from : ℕ → ℕ → List ℕ → List ℕ
-characters_from zero c [] = c ∷ []
-characters_from zero c (b ∷ bs) = c ∷ characters_from (bytes_behind b) (first_bits b) bs
-characters_from (suc n) c [] = []
-characters_from (suc n) c (b ∷ bs) = characters_from n (more_bits c b) bs
-
-abbrev pub characters : List ℕ → List ℕ
-characters [] = []
-characters (b ∷ bs) = characters_from (bytes_behind b) (first_bits b) bs
-
 -- its bytes among bytes, and its characters among characters
 abbrev pub literal_at : Sort → List ℕ → List ℕ
 literal_at Sort.Bytes bytes = bytes
-literal_at Sort.Chars bytes = characters bytes
+literal_at Sort.Chars bytes = chars bytes
 literal_at Sort.Block bytes = bytes
-literal_at Sort.Text bytes = characters bytes
+literal_at Sort.Text bytes = chars bytes
 
 -- a literal as the elements of a stream, and literals as its pieces
 abbrev pub elements_at : Sort → List ℕ → List Item

@@ -1,30 +1,23 @@
 -- Sources, sinks and `mark`: the words with sites, and lists that are given.
 use Rattle.std.specs.Prelude.{ℕ, zero, suc, ◌-◌, List, [], ◌∷◌, length, map, decimal}
 use Rattle.cd_meaning.specs.Stream.{Item, Elem, Piece, Value, More, Stop, Reading, ReadBad, Long, End, Ended, Halted, Done, Halts, Act, Do, Open, Put, Close}
-use Rattle.cd_meaning.specs.Run.{stamp, start, Run, Then, Ends, Component, outs_at, past, follow}
+use Rattle.cd_meaning.specs.Run.{stamp, start, Run, Then, Ends, Component, acts_at, outs_at, past, follow}
 use Rattle.cd_meaning.specs.RunShapes.{each, each_to_end, Mark, AtEnd, MayGoOn, Broken, TooLong, Told}
 
--- behind the bytes of the file at site s
-abbrev pub file_end : ℕ → Mark → Run
-file_end s AtEnd = Then start (Do (Close s)) (Ends start (Done Value.Unit))
-file_end s MayGoOn = Ends start (Halts (More (Reading s)))
-file_end s Broken = Ends start (Halts (Stop (ReadBad s)))
-file_end s TooLong = Ends start (Halts (Stop (Long s)))
+-- behind the bytes of a source at site s, which does these acts at its end
+abbrev pub source_end : ℕ → List Act → Mark → Run
+source_end s acts AtEnd = acts_at start acts (Ends start (Done Value.Unit))
+source_end s acts MayGoOn = Ends start (Halts (More (Reading s)))
+source_end s acts Broken = Ends start (Halts (Stop (ReadBad s)))
+source_end s acts TooLong = Ends start (Halts (Stop (Long s)))
 
 -- it opens the file, gives its bytes, and closes it at its end
 abbrev pub source_file : ℕ → Told → Component
-source_file s t xs e = Then start (Do (Open s)) (outs_at start (map Elem t.bytes) (file_end s t.mark))
-
--- behind the bytes of standard input
-abbrev pub input_end : ℕ → Mark → Run
-input_end s AtEnd = Ends start (Done Value.Unit)
-input_end s MayGoOn = Ends start (Halts (More (Reading s)))
-input_end s Broken = Ends start (Halts (Stop (ReadBad s)))
-input_end s TooLong = Ends start (Halts (Stop (Long s)))
+source_file s t xs e = Then start (Do (Open s)) (outs_at start (map Elem t.bytes) (source_end s (Do (Close s) ∷ []) t.mark))
 
 -- the same, but it neither opens nor closes
 abbrev pub stdin : ℕ → Told → Component
-stdin s t xs e = outs_at start (map Elem t.bytes) (input_end s t.mark)
+stdin s t xs e = outs_at start (map Elem t.bytes) (source_end s [] t.mark)
 
 -- values that stand in the script
 abbrev pub given : List Item → Component
@@ -39,7 +32,7 @@ count_from a (suc n) = a ∷ count_from (suc a) n
 abbrev pub decimals : ℕ → ℕ → List Item
 decimals a b = map (λ n. Piece (decimal n)) (count_from a (suc b - a))
 
--- the site s puts each element
+-- the site s puts each element; the typing lets no piece come to a sink
 abbrev pub puts : ℕ → Item → List Act
 puts s (Elem x) = Do (Put s x) ∷ []
 puts s (Piece xs) = []

@@ -1,5 +1,6 @@
 -- From elements to pieces, and back.
 use Rattle.std.specs.Prelude.{ℕ, suc, ◌+◌, ◌==◌, Bool, true, false, if◌then◌else◌, List, [], ◌∷◌, ◌++◌, length}
+use Rattle.cd_elem.specs.Ascii.{newline}
 use Rattle.cd_meaning.specs.Stream.{Item, Piece, Value, End, Ended, Halted, Out}
 use Rattle.cd_meaning.specs.Run.{stamp, Run, Then, Component, outs_at, past}
 use Rattle.cd_meaning.specs.RunShapes.{each_to_end, number, elements, piece, elements_out}
@@ -46,9 +47,6 @@ lines_from separator n i fresh held (x ∷ xs) e =
 
 abbrev pub split : ℕ → ℕ → Component
 split separator n = lines_from separator n 0 true []
-
-abbrev pub newline : ℕ
-newline = 10
 
 abbrev pub lines : ℕ → Component
 lines = split newline

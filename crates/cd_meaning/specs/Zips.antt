@@ -1,5 +1,5 @@
 -- Zips: two runs side by side.
-use Rattle.std.specs.Prelude.{ℕ, min, max, nat_le, if◌then◌else◌, List, [], ◌++◌, length}
+use Rattle.std.specs.Prelude.{ℕ, min, max, nat_le, Bool, if◌then◌else◌, List, [], ◌++◌, length}
 use Rattle.cd_meaning.specs.Stream.{Item, Piece, Value, Ended, Ending, Done, Halts, Act, Out, Do}
 use Rattle.cd_meaning.specs.Run.{Stamp, stamp, start, Run, Then, Ends, Component}
 use Rattle.cd_meaning.specs.RunShapes.{elements}
@@ -31,26 +31,34 @@ zip_source separator a b xs e = zip_runs separator (a [] Ended) (b [] Ended)
 
 -- ---- `zipSink`, `zipConduit`, `tee`
 
--- Two runs on n values, by need, at equal need a's acts and ending before b's. The net of each is its need, or n where that is less.
+-- Two runs on n values, by need, at equal need a's acts and ending before b's.
+
+-- the stamp of what has this need: its net is that too, or n where n is less
+abbrev pub at_need : ℕ → ℕ → Stamp
+at_need n need = stamp need (min need n)
+
+-- what the first part does at s comes before what the second does at t
+abbrev pub is_first : Stamp → Stamp → Bool
+is_first s t = nat_le s.need t.need
 
 -- a's act at s, in its place among b's; rest goes on with what is left of a
 abbrev pub placed : ℕ → Stamp → Act → (Run → Run) → Run → Run
 placed n s act rest (Then t y b) =
-    if nat_le s.need t.need then Then (stamp s.need (min s.need n)) act (rest (Then t y b)) else Then (stamp t.need (min t.need n)) y (placed n s act rest b)
-placed n s act rest (Ends t (Done v)) = Then (stamp s.need (min s.need n)) act (rest (Ends t (Done v)))
+    if is_first s t then Then (at_need n s.need) act (rest (Then t y b)) else Then (at_need n t.need) y (placed n s act rest b)
+placed n s act rest (Ends t (Done v)) = Then (at_need n s.need) act (rest (Ends t (Done v)))
 placed n s act rest (Ends t (Halts h)) =
-    if nat_le s.need t.need then Then (stamp s.need (min s.need n)) act (rest (Ends t (Halts h))) else Ends (stamp t.need (min t.need n)) (Halts h)
+    if is_first s t then Then (at_need n s.need) act (rest (Ends t (Halts h))) else Ends (at_need n t.need) (Halts h)
 
 -- a ends at s; b goes on where a is done, and else up to there
 abbrev pub ended : ℕ → Stamp → Ending → Run → Run
-ended n s (Done u) (Then t y b) = Then (stamp t.need (min t.need n)) y (ended n s (Done u) b)
-ended n s (Done u) (Ends t (Done v)) = let j = max s.need t.need in Ends (stamp j (min j n)) (Done (both u v))
-ended n s (Done u) (Ends t (Halts h)) = Ends (stamp t.need (min t.need n)) (Halts h)
+ended n s (Done u) (Then t y b) = Then (at_need n t.need) y (ended n s (Done u) b)
+ended n s (Done u) (Ends t (Done v)) = Ends (at_need n (max s.need t.need)) (Done (both u v))
+ended n s (Done u) (Ends t (Halts h)) = Ends (at_need n t.need) (Halts h)
 ended n s (Halts g) (Then t y b) =
-    if nat_le s.need t.need then Ends (stamp s.need (min s.need n)) (Halts g) else Then (stamp t.need (min t.need n)) y (ended n s (Halts g) b)
-ended n s (Halts g) (Ends t (Done v)) = Ends (stamp s.need (min s.need n)) (Halts g)
+    if is_first s t then Ends (at_need n s.need) (Halts g) else Then (at_need n t.need) y (ended n s (Halts g) b)
+ended n s (Halts g) (Ends t (Done v)) = Ends (at_need n s.need) (Halts g)
 ended n s (Halts g) (Ends t (Halts h)) =
-    if nat_le s.need t.need then Ends (stamp s.need (min s.need n)) (Halts g) else Ends (stamp t.need (min t.need n)) (Halts h)
+    if is_first s t then Ends (at_need n s.need) (Halts g) else Ends (at_need n t.need) (Halts h)
 
 abbrev pub merge : ℕ → Run → Run → Run
 merge n (Then s act a) b = placed n s act (merge n a) b

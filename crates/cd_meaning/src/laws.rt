@@ -1,5 +1,6 @@
 // Laws of the meaning. Each is the contract of a function that does nothing.
 ghost use Rattle.std.specs.Prelude.{◌≡◌, ◌≤◌, ◌<◌, ◌+◌, ℕ, Bool, List, [], ◌∷◌, ◌++◌, length, Some};
+ghost use Rattle.cd_elem.specs.Ascii.{newline};
 ghost use Rattle.cd_elem.specs.declared.script.Join.TheVariants.{Plain};
 ghost use Rattle.cd_elem.specs.declared.script.Pipe.{Pipe};
 ghost use Rattle.cd_elem.specs.declared.script.Pipe.TheVariants as pipe;
@@ -67,7 +68,7 @@ pub fn weave_associativity()
 /// `length`, and so on), `lines N` and `split` at the newline, `exactlyE` and `exactly`, `zipConduit` and `zipSink`.
 pub fn equal_words()
     ensures twins { (w : ElemWord) (other : PieceWord) → twin w ≡ Some other → element_word w ≡ piece_word other }
-    ensures lines { (n : ℕ) → split_word (SplitWord.Lines n) ≡ split_word (SplitWord.Split 10 n) }
+    ensures lines { (n : ℕ) → split_word (SplitWord.Lines n) ≡ split_word (SplitWord.Split newline n) }
     ensures sections { (n : ℕ) (p : Pipe) → pipe_meaning (pipe.ExactlyE n p) ≡ pipe_meaning (pipe.Exactly n p) }
     ensures zips { (p q : Pipe) → pipe_meaning (pipe.ZipConduit p q) ≡ pipe_meaning (pipe.ZipSink p q) }
 {}

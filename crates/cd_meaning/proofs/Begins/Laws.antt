@@ -1,14 +1,14 @@
 -- Runs that go on as others began.
 use Rattle.std.proofs.Common.{Bool, true, false, ◌≡◌, ℕ, ◌≤◌, ◌⊎◌, inl, inr, List, [], ◌∷◌, ◌++◌, map, refl, ap, sym, ◌∙◌, subst}
 use Rattle.std.proofs.lemmas.Bool.{eqb-true, eqb-false}
-use Rattle.cd_meaning.specs.Stream.{Item, Elem, More, Reading, Halts, Act, Out, Do, Effect}
+use Rattle.cd_meaning.specs.Stream.{Item, Elem, More, Reading, Halts, Act, Out, Do, Effect, Close}
 use Rattle.cd_meaning.specs.Run.{Stamp, start, Run, Then, Ends, Component, outs, effects, ending, outs_at}
 use Rattle.cd_meaning.specs.RunShapes.{Mark, MayGoOn, Told, Seen}
-use Rattle.cd_meaning.specs.Sources.{file_end, source_file, input_end, stdin}
+use Rattle.cd_meaning.specs.Sources.{source_end, source_file, stdin}
 use Rattle.cd_meaning.specs.Laws.{Rising, EachStamp}
 use Rattle.cd_meaning.specs.Further.{WaitsFor, Begins, GoesOn, IsFurther, Further, only}
 use Rattle.cd_meaning.proofs.Rising.{rising_less}
-use Rattle.cd_meaning.proofs.Runs.Sources.{AtStart, start_rising, outs_start, file_end_start, input_end_start}
+use Rattle.cd_meaning.proofs.Runs.Sources.{AtStart, start_rising, outs_start, source_end_start}
 
 pub act_same : (s t : Stamp) (a b : Act) (r : Run) → s ≡ t → a ≡ b → Then s a r ≡ Then t b r
 act_same s t a b r h k = rw (h, k)
@@ -107,14 +107,15 @@ pub source_file_goes_on : (sites : ℕ → Bool) (s : ℕ) (seen seen' : Seen) �
 source_file_goes_on sites s seen seen' k xs e = (
   refl,
   refl,
-  at_site sites s seen seen' (λ t. outs_at start (map Elem t.bytes) (file_end s t.mark)) k
-      (λ i w. reader_begins sites s (file_end s) (seen s) (seen' s) i refl (file_end_start s) w),
+  (let closes = Do (Close s) ∷ [] in
+      at_site sites s seen seen' (λ t. outs_at start (map Elem t.bytes) (source_end s closes t.mark)) k
+      (λ i w. reader_begins sites s (source_end s closes) (seen s) (seen' s) i refl (source_end_start s closes) w)),
 )
 
 pub stdin_goes_on : (sites : ℕ → Bool) (s : ℕ) (seen seen' : Seen) → Further sites seen seen' → GoesOn sites (stdin s (seen s)) (stdin s (seen' s))
 stdin_goes_on sites s seen seen' k xs e =
-    at_site sites s seen seen' (λ t. outs_at start (map Elem t.bytes) (input_end s t.mark)) k
-    (λ i w. reader_begins sites s (input_end s) (seen s) (seen' s) i refl (input_end_start s) w)
+    at_site sites s seen seen' (λ t. outs_at start (map Elem t.bytes) (source_end s [] t.mark)) k
+    (λ i w. reader_begins sites s (source_end s []) (seen s) (seen' s) i refl (source_end_start s []) w)
 
 -- one site gave more
 pub further_at : (site : ℕ) (seen seen' : Seen) → IsFurther (seen site) (seen' site) → ((other : ℕ) → (other ≡ site → ⊥) → seen' other ≡ seen other) → Further (only site) seen seen'

@@ -3,7 +3,7 @@ use Rattle.std.proofs.Common.{◌≡◌, ℕ, suc, ◌+◌, ◌≤◌, List, [],
 use Rattle.cd_meaning.specs.Stream.{Item, Elem, Value, End, Ended, Halted, Done, Act, Do, Open, Close}
 use Rattle.cd_meaning.specs.Run.{Stamp, stamp, start, Run, Then, Ends, Component, acts_at, outs_at}
 use Rattle.cd_meaning.specs.RunShapes.{each, Mark, AtEnd, MayGoOn, Broken, TooLong, Told}
-use Rattle.cd_meaning.specs.Sources.{file_end, source_file, input_end, stdin, given, puts, stdout, closing, sink_file}
+use Rattle.cd_meaning.specs.Sources.{source_end, source_file, stdin, given, puts, stdout, closing, sink_file}
 use Rattle.cd_meaning.specs.Laws.{Rising, EachStamp, IsStamp, IsRun}
 use Rattle.cd_meaning.specs.Scan.{Go, Scan, closed, scan}
 use Rattle.cd_meaning.proofs.Stamps.{each_stamp}
@@ -36,23 +36,23 @@ pub outs_start : (xs : List Item) (r : Run) → EachStamp AtStart r → EachStam
 outs_start [] r h = h
 outs_start (x ∷ xs) r h = (refl, outs_start xs r h)
 
-pub file_end_start : (s : ℕ) (m : Mark) → EachStamp AtStart (file_end s m)
-file_end_start s AtEnd = (refl, refl)
-file_end_start s MayGoOn = refl
-file_end_start s Broken = refl
-file_end_start s TooLong = refl
+acts_start : (acts : List Act) (r : Run) → EachStamp AtStart r → EachStamp AtStart (acts_at start acts r)
+acts_start [] r h = h
+acts_start (a ∷ acts) r h = (refl, acts_start acts r h)
+
+pub source_end_start : (s : ℕ) (acts : List Act) (m : Mark) → EachStamp AtStart (source_end s acts m)
+source_end_start s acts AtEnd = acts_start acts _ refl
+source_end_start s acts MayGoOn = refl
+source_end_start s acts Broken = refl
+source_end_start s acts TooLong = refl
 
 pub source_file_is_run : (s : ℕ) (t : Told) → IsRun (source_file s t)
-source_file_is_run s t = source_is_run _ (refl, outs_start (map Elem t.bytes) (file_end s t.mark) (file_end_start s t.mark))
-
-pub input_end_start : (s : ℕ) (m : Mark) → EachStamp AtStart (input_end s m)
-input_end_start s AtEnd = refl
-input_end_start s MayGoOn = refl
-input_end_start s Broken = refl
-input_end_start s TooLong = refl
+source_file_is_run s t =
+    let closes = Do (Close s) ∷ [] in
+    source_is_run _ (refl, outs_start (map Elem t.bytes) (source_end s closes t.mark) (source_end_start s closes t.mark))
 
 pub stdin_is_run : (s : ℕ) (t : Told) → IsRun (stdin s t)
-stdin_is_run s t = source_is_run _ (outs_start (map Elem t.bytes) (input_end s t.mark) (input_end_start s t.mark))
+stdin_is_run s t = source_is_run _ (outs_start (map Elem t.bytes) (source_end s [] t.mark) (source_end_start s [] t.mark))
 
 pub given_is_run : (xs : List Item) → IsRun (given xs)
 given_is_run xs = source_is_run _ (outs_start xs _ refl)

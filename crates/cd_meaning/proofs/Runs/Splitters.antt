@@ -1,9 +1,10 @@
 -- The words from elements to pieces, and back, are runs.
 use Rattle.std.proofs.Common.{◌≡◌, ℕ, suc, ◌+◌, List, [], ◌∷◌, ◌++◌, length, map, refl, ap, ◌∙◌, Bool, true, false, ◌==◌, if◌then◌else◌}
+use Rattle.cd_elem.specs.Ascii.{newline}
 use Rattle.cd_meaning.specs.Stream.{Item, Value, End, Ended, Halted, Done, Out}
 use Rattle.cd_meaning.specs.Run.{stamp, Run, Then, acts_at, outs_at}
 use Rattle.cd_meaning.specs.RunShapes.{number, elements, piece, elements_out}
-use Rattle.cd_meaning.specs.Splitters.{no_piece, short_piece, grouped, exact, chunks_of, line_end, lines_from, split, newline, lines, flat, unlines}
+use Rattle.cd_meaning.specs.Splitters.{no_piece, short_piece, grouped, exact, chunks_of, line_end, lines_from, split, lines, flat, unlines}
 use Rattle.cd_meaning.specs.Laws.{IsRun}
 use Rattle.cd_meaning.specs.Scan.{Reply, Go, Scan, replied, scan}
 use Rattle.cd_meaning.proofs.Runs.Shapes.{is_run_as, never, outs_acts, each_is_run, each_scan, each_is_scan}

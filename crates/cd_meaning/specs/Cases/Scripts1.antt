@@ -2,6 +2,7 @@
 use Rattle.std.specs.Prelude.{List, [], ◌∷◌, ◌≡◌, codes}
 use Rattle.std.specs.Fmt.{digits}
 use lib.Utf8.{encode}
+use Rattle.std.specs.Str.{chars}
 use Rattle.cd_meaning.specs.Stream.{Value, Reading, More, Stop, bad_base64, ReadBad, Done, Halts, Open, Put, Close}
 use Rattle.cd_meaning.specs.RunShapes.{AtEnd, MayGoOn, Broken}
 use Rattle.cd_meaning.specs.Rows.Trees.{Sentence}
@@ -19,22 +20,22 @@ script_1_effects_1 : effects_of script_1 (known 1 (codes "3:11,,8:,,b:,ba,,0:,05
     Close 2 ∷ Put 0 61 ∷ Put 0 32 ∷ Put 0 40 ∷ Put 0 116 ∷ Put 0 114 ∷ Put 0 117 ∷ Put 0 101 ∷ Put 0 44 ∷ Put 0 32 ∷ Put 0 110 ∷ Put 0 111 ∷ Put 0 110
     ∷ Put 0 101 ∷ Put 0 41 ∷ Put 0 10 ∷ Open 3 ∷ Close 3 ∷ Put 0 61 ∷ Put 0 32 ∷ Put 0 115 ∷ Put 0 111 ∷ Put 0 109 ∷ Put 0 101 ∷ Put 0 32 ∷ Put 0 34 ∷
     Put 0 53 ∷ Put 0 34 ∷ Put 0 10 ∷ []
-unfolding digits encode
+unfolding digits encode chars
 script_1_effects_1 = effects_so _ _
 
 script_1_ending_1 : ending_of script_1 (known 1 (codes "3:11,,8:,,b:,ba,,0:,05:") AtEnd (known 3 (codes "6315") AtEnd nothing_seen)) ≡ Done Value.Unit
-unfolding digits encode
+unfolding digits encode chars
 script_1_ending_1 = ending_so _ _
 
 script_1_effects_2 : effects_of script_1 (known 1 (codes "3:11,,8:,,b:,ba") Broken (known 3 (codes "6315") MayGoOn nothing_seen)) ≡ Open 2 ∷ Close 2 ∷
     Put 0 61 ∷ Put 0 32 ∷ Put 0 40 ∷ Put 0 116 ∷ Put 0 114 ∷ Put 0 117 ∷ Put 0 101 ∷ Put 0 44 ∷ Put 0 32 ∷ Put 0 110 ∷ Put 0 111 ∷ Put 0 110 ∷ Put 0
     101 ∷ Put 0 41 ∷ Put 0 10 ∷ Open 3 ∷ []
-unfolding digits encode
+unfolding digits encode chars
 script_1_effects_2 = effects_so _ _
 
 script_1_ending_2 : ending_of script_1 (known 1 (codes "3:11,,8:,,b:,ba") Broken (known 3 (codes "6315") MayGoOn nothing_seen)) ≡ Halts (More (Reading
     3))
-unfolding digits encode
+unfolding digits encode chars
 script_1_ending_2 = ending_so _ _
 
 -- run zipSource(sourceFile "d" | lines 9, replicate 30 "", "x\n") | intersperse "0" | flat | headE;
@@ -46,20 +47,20 @@ script_2 = run_statement (piped (zip_source_form (120 ∷ 10 ∷ []) (piped (sou
 
 script_2_effects_1 : effects_of script_2 (known 1 (codes "0:,3:aba,1:,,0") AtEnd (known 2 (codes "0:,3:aba,1:,,0") AtEnd nothing_seen)) ≡ Open 1 ∷ Put
     0 61 ∷ Put 0 32 ∷ Put 0 115 ∷ Put 0 111 ∷ Put 0 109 ∷ Put 0 101 ∷ Put 0 32 ∷ Put 0 52 ∷ Put 0 56 ∷ Put 0 10 ∷ Open 3 ∷ Open 2 ∷ Close 3 ∷ []
-unfolding digits encode
+unfolding digits encode chars
 script_2_effects_1 = effects_so _ _
 
 script_2_ending_1 : ending_of script_2 (known 1 (codes "0:,3:aba,1:,,0") AtEnd (known 2 (codes "0:,3:aba,1:,,0") AtEnd nothing_seen)) ≡ Done
     Value.Unit
-unfolding digits encode
+unfolding digits encode chars
 script_2_ending_1 = ending_so _ _
 
 script_2_effects_2 : effects_of script_2 (known 1 (codes "0:,3:a") MayGoOn (known 2 (codes "0:,") MayGoOn nothing_seen)) ≡ Open 1 ∷ []
-unfolding digits encode
+unfolding digits encode chars
 script_2_effects_2 = effects_so _ _
 
 script_2_ending_2 : ending_of script_2 (known 1 (codes "0:,3:a") MayGoOn (known 2 (codes "0:,") MayGoOn nothing_seen)) ≡ Halts (More (Reading 1))
-unfolding digits encode
+unfolding digits encode chars
 script_2_ending_2 = ending_so _ _
 
 -- hold k0 = mark "m1";
@@ -67,11 +68,11 @@ abbrev script_3 : List Sentence
 script_3 = hold_statement (codes "k0") (codes "m1") ∷ []
 
 script_3_effects_1 : effects_of script_3 nothing_seen ≡ Open 1 ∷ []
-unfolding digits encode
+unfolding digits encode chars
 script_3_effects_1 = effects_so _ _
 
 script_3_ending_1 : ending_of script_3 nothing_seen ≡ Done Value.Unit
-unfolding digits encode
+unfolding digits encode chars
 script_3_ending_1 = ending_so _ _
 
 -- run range 0 3 | mark "m1" { (unlines | repeatE 3) } | (chunksOf 8 | zipSink(dropWhile begins "b", peek));
@@ -86,22 +87,22 @@ script_4_effects_1 : effects_of script_4 (known 2 [] AtEnd (known 3 (codes "a") 
     40 ∷ Put 0 41 ∷ Put 0 44 ∷ Put 0 32 ∷ Put 0 115 ∷ Put 0 111 ∷ Put 0 109 ∷ Put 0 101 ∷ Put 0 32 ∷ Put 0 34 ∷ Put 0 48 ∷ Put 0 48 ∷ Put 0 48 ∷ Put 0
     92 ∷ Put 0 120 ∷ Put 0 48 ∷ Put 0 97 ∷ Put 0 92 ∷ Put 0 120 ∷ Put 0 48 ∷ Put 0 97 ∷ Put 0 92 ∷ Put 0 120 ∷ Put 0 48 ∷ Put 0 97 ∷ Put 0 49 ∷ Put 0
     49 ∷ Put 0 34 ∷ Put 0 41 ∷ Put 0 10 ∷ Open 2 ∷ Close 2 ∷ Open 3 ∷ Close 3 ∷ []
-unfolding digits encode
+unfolding digits encode chars
 script_4_effects_1 = effects_so _ _
 
 script_4_ending_1 : ending_of script_4 (known 2 [] AtEnd (known 3 (codes "a") AtEnd nothing_seen)) ≡ Halts (Stop (bad_base64 0))
-unfolding digits encode
+unfolding digits encode chars
 script_4_ending_1 = ending_so _ _
 
 script_4_effects_2 : effects_of script_4 (known 2 [] MayGoOn (known 3 [] Broken nothing_seen)) ≡ Open 1 ∷ Put 0 61 ∷ Put 0 32 ∷ Put 0 40 ∷ Put 0 40 ∷
     Put 0 41 ∷ Put 0 44 ∷ Put 0 32 ∷ Put 0 115 ∷ Put 0 111 ∷ Put 0 109 ∷ Put 0 101 ∷ Put 0 32 ∷ Put 0 34 ∷ Put 0 48 ∷ Put 0 48 ∷ Put 0 48 ∷ Put 0 92 ∷
     Put 0 120 ∷ Put 0 48 ∷ Put 0 97 ∷ Put 0 92 ∷ Put 0 120 ∷ Put 0 48 ∷ Put 0 97 ∷ Put 0 92 ∷ Put 0 120 ∷ Put 0 48 ∷ Put 0 97 ∷ Put 0 49 ∷ Put 0 49 ∷
     Put 0 34 ∷ Put 0 41 ∷ Put 0 10 ∷ Open 2 ∷ []
-unfolding digits encode
+unfolding digits encode chars
 script_4_effects_2 = effects_so _ _
 
 script_4_ending_2 : ending_of script_4 (known 2 [] MayGoOn (known 3 [] Broken nothing_seen)) ≡ Halts (More (Reading 2))
-unfolding digits encode
+unfolding digits encode chars
 script_4_ending_2 = ending_so _ _
 
 -- run mark "m1" { (replicate 0 "\n" | repeat 2) } | (unlines | (lines 80 | unlines)) | passE | zipSink(sinkFile "x2", zipSink(sinkNull, sinkNull));
@@ -110,11 +111,11 @@ script_5 = run_statement (piped (mark_form (codes "m1") (piped (replicate_word 0
     (lines_word 80 ∷ unlines_word ∷ []) ∷ []) ∷ pass_e ∷ zip_sink_form (sink_file_word (codes "x2")) (zip_sink_form sink_null sink_null) ∷ [])) ∷ []
 
 script_5_effects_1 : effects_of script_5 nothing_seen ≡ Open 2 ∷ Open 1 ∷ Close 1 ∷ Close 2 ∷ []
-unfolding digits encode
+unfolding digits encode chars
 script_5_effects_1 = effects_so _ _
 
 script_5_ending_1 : ending_of script_5 nothing_seen ≡ Done Value.Unit
-unfolding digits encode
+unfolding digits encode chars
 script_5_ending_1 = ending_so _ _
 
 -- run blocks ["\n"] | { map suffix "a"; drop 1 } | { zipSink(collect 50, length); intersperse "é"; filter begins "\\" } | drop 4;
@@ -126,19 +127,19 @@ script_6 = run_statement (piped (blocks_word ((10 ∷ []) ∷ []) ∷ sequence_f
     []) ∷ [])) ∷ []
 
 script_6_effects_1 : effects_of script_6 (known 2 (10 ∷ 10 ∷ 97 ∷ 97 ∷ 97 ∷ []) AtEnd nothing_seen) ≡ Open 1 ∷ Open 2 ∷ Close 2 ∷ Close 1 ∷ []
-unfolding digits encode
+unfolding digits encode chars
 script_6_effects_1 = effects_so _ _
 
 script_6_ending_1 : ending_of script_6 (known 2 (10 ∷ 10 ∷ 97 ∷ 97 ∷ 97 ∷ []) AtEnd nothing_seen) ≡ Done Value.Unit
-unfolding digits encode
+unfolding digits encode chars
 script_6_ending_1 = ending_so _ _
 
 script_6_effects_2 : effects_of script_6 (known 2 (10 ∷ 10 ∷ 97 ∷ []) MayGoOn nothing_seen) ≡ Open 1 ∷ Open 2 ∷ []
-unfolding digits encode
+unfolding digits encode chars
 script_6_effects_2 = effects_so _ _
 
 script_6_ending_2 : ending_of script_6 (known 2 (10 ∷ 10 ∷ 97 ∷ []) MayGoOn nothing_seen) ≡ Halts (More (Reading 2))
-unfolding digits encode
+unfolding digits encode chars
 script_6_ending_2 = ending_so _ _
 
 -- run mark "m1" { sourceFile "a" } | takeWhileE hexdigit | mapE xor 1 | lineE { (split "\n" 4096 | collect 50) };
@@ -148,19 +149,19 @@ script_7 = run_statement (piped (mark_form (codes "m1") (source_file_word (codes
 
 script_7_effects_1 : effects_of script_7 (known 2 (codes "PEriZbE=") AtEnd nothing_seen) ≡ Open 1 ∷ Open 2 ∷ Put 0 61 ∷ Put 0 32 ∷ Put 0 91 ∷ Put 0 93
     ∷ Put 0 10 ∷ []
-unfolding digits encode
+unfolding digits encode chars
 script_7_effects_1 = effects_so _ _
 
 script_7_ending_1 : ending_of script_7 (known 2 (codes "PEriZbE=") AtEnd nothing_seen) ≡ Done Value.Unit
-unfolding digits encode
+unfolding digits encode chars
 script_7_ending_1 = ending_so _ _
 
 script_7_effects_2 : effects_of script_7 (known 2 [] MayGoOn nothing_seen) ≡ Open 1 ∷ Open 2 ∷ []
-unfolding digits encode
+unfolding digits encode chars
 script_7_effects_2 = effects_so _ _
 
 script_7_ending_2 : ending_of script_7 (known 2 [] MayGoOn nothing_seen) ≡ Halts (More (Reading 2))
-unfolding digits encode
+unfolding digits encode chars
 script_7_ending_2 = ending_so _ _
 
 -- let s0 = seal replicate 2 "aaaba";
@@ -173,11 +174,11 @@ script_8 = let_statement (codes "s0") (replicate_word 2 (codes "aaaba")) ∷ run
 
 script_8_effects_1 : effects_of script_8 nothing_seen ≡ Put 0 61 ∷ Put 0 32 ∷ Put 0 110 ∷ Put 0 111 ∷ Put 0 110 ∷ Put 0 101 ∷ Put 0 10 ∷ Put 0 61 ∷
     Put 0 32 ∷ Put 0 40 ∷ Put 0 48 ∷ Put 0 44 ∷ Put 0 32 ∷ Put 0 91 ∷ Put 0 93 ∷ Put 0 41 ∷ Put 0 10 ∷ []
-unfolding digits encode
+unfolding digits encode chars
 script_8_effects_1 = effects_so _ _
 
 script_8_ending_1 : ending_of script_8 nothing_seen ≡ Done Value.Unit
-unfolding digits encode
+unfolding digits encode chars
 script_8_ending_1 = ending_so _ _
 
 -- run mark "m1" { sourceFile "d" } | lines 3 | unlines | lineE { (base64Decode | utf8Lenient) } | dropE 5;
@@ -187,20 +188,20 @@ script_9 = run_statement (piped (mark_form (codes "m1") (source_file_word (codes
 
 script_9_effects_1 : effects_of script_9 (known 2 (0 ∷ 0 ∷ 0 ∷ 3 ∷ 0 ∷ 0 ∷ 0 ∷ 0 ∷ 0 ∷ 0 ∷ 3 ∷ 98 ∷ 97 ∷ 98 ∷ 0 ∷ 0 ∷ 0 ∷ 0 ∷ []) AtEnd nothing_seen)
     ≡ Open 1 ∷ Open 2 ∷ []
-unfolding digits encode
+unfolding digits encode chars
 script_9_effects_1 = effects_so _ _
 
 script_9_ending_1 : ending_of script_9 (known 2 (0 ∷ 0 ∷ 0 ∷ 3 ∷ 0 ∷ 0 ∷ 0 ∷ 0 ∷ 0 ∷ 0 ∷ 3 ∷ 98 ∷ 97 ∷ 98 ∷ 0 ∷ 0 ∷ 0 ∷ 0 ∷ []) AtEnd nothing_seen) ≡
     Halts (Stop (bad_base64 0))
-unfolding digits encode
+unfolding digits encode chars
 script_9_ending_1 = ending_so _ _
 
 script_9_effects_2 : effects_of script_9 (known 2 (0 ∷ 0 ∷ 0 ∷ 3 ∷ []) Broken nothing_seen) ≡ Open 1 ∷ Open 2 ∷ []
-unfolding digits encode
+unfolding digits encode chars
 script_9_effects_2 = effects_so _ _
 
 script_9_ending_2 : ending_of script_9 (known 2 (0 ∷ 0 ∷ 0 ∷ 3 ∷ []) Broken nothing_seen) ≡ Halts (Stop (bad_base64 0))
-unfolding digits encode
+unfolding digits encode chars
 script_9_ending_2 = ending_so _ _
 
 -- run bytes "\n" | ((mapE xor 32 |= utf8Lenient) | sinkNull);
@@ -210,11 +211,11 @@ script_10 = run_statement (piped (bytes_word (10 ∷ []) ∷ piped (piped_keep (
     run_statement (piped (blocks_word ((226 ∷ 130 ∷ 172 ∷ 34 ∷ 195 ∷ 169 ∷ []) ∷ []) ∷ filter_word (begins (codes ",")) ∷ collect_word 50 ∷ [])) ∷ []
 
 script_10_effects_1 : effects_of script_10 nothing_seen ≡ Put 0 61 ∷ Put 0 32 ∷ Put 0 91 ∷ Put 0 93 ∷ Put 0 10 ∷ []
-unfolding digits encode
+unfolding digits encode chars
 script_10_effects_1 = effects_so _ _
 
 script_10_ending_1 : ending_of script_10 nothing_seen ≡ Done Value.Unit
-unfolding digits encode
+unfolding digits encode chars
 script_10_ending_1 = ending_so _ _
 
 -- run zipSource(zipSource(sourceFile "c" | lines 9, sourceFile "missing" | lines 9, "\u{7f}"), replicate 0 "\n", "a") | { collect 50; take 2 } | (take 1 | (map suffix "aa" |= pass)) | collect 50;
@@ -225,19 +226,19 @@ script_11 = run_statement (piped (zip_source_form (codes "a") (zip_source_form (
 
 script_11_effects_1 : effects_of script_11 (known 1 (codes "elHDe9h=elHD") AtEnd (known 2 [] AtEnd nothing_seen)) ≡ Open 1 ∷ Open 2 ∷ Close 2 ∷ Put 0
     61 ∷ Put 0 32 ∷ Put 0 91 ∷ Put 0 93 ∷ Put 0 10 ∷ []
-unfolding digits encode
+unfolding digits encode chars
 script_11_effects_1 = effects_so _ _
 
 script_11_ending_1 : ending_of script_11 (known 1 (codes "elHDe9h=elHD") AtEnd (known 2 [] AtEnd nothing_seen)) ≡ Done Value.Unit
-unfolding digits encode
+unfolding digits encode chars
 script_11_ending_1 = ending_so _ _
 
 script_11_effects_2 : effects_of script_11 (known 1 (codes "elHDe9h=elHD") MayGoOn (known 2 [] MayGoOn nothing_seen)) ≡ Open 1 ∷ Open 2 ∷ []
-unfolding digits encode
+unfolding digits encode chars
 script_11_effects_2 = effects_so _ _
 
 script_11_ending_2 : ending_of script_11 (known 1 (codes "elHDe9h=elHD") MayGoOn (known 2 [] MayGoOn nothing_seen)) ≡ Halts (More (Reading 2))
-unfolding digits encode
+unfolding digits encode chars
 script_11_ending_2 = ending_so _ _
 
 -- run zipSource(sourceFile "d" | lines 9, replicate 5 ",é", "\"") | unlines | collectE 50;
@@ -249,19 +250,19 @@ script_12 = run_statement (piped (zip_source_form (34 ∷ []) (piped (source_fil
 script_12_effects_1 : effects_of script_12 (known 1 (codes "`Cd") AtEnd nothing_seen) ≡ Open 1 ∷ Close 1 ∷ Put 0 61 ∷ Put 0 32 ∷ Put 0 34 ∷ Put 0 96 ∷
     Put 0 67 ∷ Put 0 100 ∷ Put 0 92 ∷ Put 0 34 ∷ Put 0 44 ∷ Put 0 92 ∷ Put 0 120 ∷ Put 0 99 ∷ Put 0 51 ∷ Put 0 92 ∷ Put 0 120 ∷ Put 0 97 ∷ Put 0 57 ∷
     Put 0 92 ∷ Put 0 120 ∷ Put 0 48 ∷ Put 0 97 ∷ Put 0 34 ∷ Put 0 10 ∷ []
-unfolding digits encode
+unfolding digits encode chars
 script_12_effects_1 = effects_so _ _
 
 script_12_ending_1 : ending_of script_12 (known 1 (codes "`Cd") AtEnd nothing_seen) ≡ Done Value.Unit
-unfolding digits encode
+unfolding digits encode chars
 script_12_ending_1 = ending_so _ _
 
 script_12_effects_2 : effects_of script_12 (known 1 (codes "`Cd") MayGoOn nothing_seen) ≡ Open 1 ∷ []
-unfolding digits encode
+unfolding digits encode chars
 script_12_effects_2 = effects_so _ _
 
 script_12_ending_2 : ending_of script_12 (known 1 (codes "`Cd") MayGoOn nothing_seen) ≡ Halts (More (Reading 1))
-unfolding digits encode
+unfolding digits encode chars
 script_12_ending_2 = ending_so _ _
 
 -- run sourceFile "b" | { takeWhileE not upper; { takeE 1; hexDecode; takeE 1 }; mapE rot13 } | zipSink((lines 2 | collect 0), exactlyE 3 { sinkFile "x1" });
@@ -272,20 +273,20 @@ script_13 = run_statement (piped (source_file_word (codes "b") ∷ sequence_form
 
 script_13_effects_1 : effects_of script_13 (known 1 (codes "9Ab8c5cdb05Fa3fCea440") AtEnd nothing_seen) ≡ Open 2 ∷ Open 1 ∷ Put 2 57 ∷ Put 2 65 ∷ Put
     2 184 ∷ Close 2 ∷ Put 0 61 ∷ Put 0 32 ∷ Put 0 40 ∷ Put 0 91 ∷ Put 0 93 ∷ Put 0 44 ∷ Put 0 32 ∷ Put 0 40 ∷ Put 0 41 ∷ Put 0 41 ∷ Put 0 10 ∷ []
-unfolding digits encode
+unfolding digits encode chars
 script_13_effects_1 = effects_so _ _
 
 script_13_ending_1 : ending_of script_13 (known 1 (codes "9Ab8c5cdb05Fa3fCea440") AtEnd nothing_seen) ≡ Done Value.Unit
-unfolding digits encode
+unfolding digits encode chars
 script_13_ending_1 = ending_so _ _
 
 script_13_effects_2 : effects_of script_13 (known 1 (codes "9Ab8c5cdb05") MayGoOn nothing_seen) ≡ Open 2 ∷ Open 1 ∷ Put 2 57 ∷ Put 2 65 ∷ Put 2 184 ∷
     Close 2 ∷ Put 0 61 ∷ Put 0 32 ∷ Put 0 40 ∷ Put 0 91 ∷ Put 0 93 ∷ Put 0 44 ∷ Put 0 32 ∷ Put 0 40 ∷ Put 0 41 ∷ Put 0 41 ∷ Put 0 10 ∷ []
-unfolding digits encode
+unfolding digits encode chars
 script_13_effects_2 = effects_so _ _
 
 script_13_ending_2 : ending_of script_13 (known 1 (codes "9Ab8c5cdb05") MayGoOn nothing_seen) ≡ Done Value.Unit
-unfolding digits encode
+unfolding digits encode chars
 script_13_ending_2 = ending_so _ _
 
 -- run sourceFile "c" | mapE xor 0 | sinkFile "x3";
@@ -294,20 +295,20 @@ script_14 = run_statement (piped (source_file_word (codes "c") ∷ map_e (xor 0)
 
 script_14_effects_1 : effects_of script_14 (known 1 (98 ∷ 97 ∷ 45 ∷ 99 ∷ 10 ∷ 10 ∷ 49 ∷ 97 ∷ []) AtEnd nothing_seen) ≡ Open 2 ∷ Open 1 ∷ Put 2 98 ∷
     Put 2 97 ∷ Put 2 45 ∷ Put 2 99 ∷ Put 2 10 ∷ Put 2 10 ∷ Put 2 49 ∷ Put 2 97 ∷ Close 1 ∷ Close 2 ∷ []
-unfolding digits encode
+unfolding digits encode chars
 script_14_effects_1 = effects_so _ _
 
 script_14_ending_1 : ending_of script_14 (known 1 (98 ∷ 97 ∷ 45 ∷ 99 ∷ 10 ∷ 10 ∷ 49 ∷ 97 ∷ []) AtEnd nothing_seen) ≡ Done Value.Unit
-unfolding digits encode
+unfolding digits encode chars
 script_14_ending_1 = ending_so _ _
 
 script_14_effects_2 : effects_of script_14 (known 1 (codes "ba-c") MayGoOn nothing_seen) ≡ Open 2 ∷ Open 1 ∷ Put 2 98 ∷ Put 2 97 ∷ Put 2 45 ∷ Put 2 99
     ∷ []
-unfolding digits encode
+unfolding digits encode chars
 script_14_effects_2 = effects_so _ _
 
 script_14_ending_2 : ending_of script_14 (known 1 (codes "ba-c") MayGoOn nothing_seen) ≡ Halts (More (Reading 1))
-unfolding digits encode
+unfolding digits encode chars
 script_14_ending_2 = ending_so _ _
 
 -- run (sourceFile "d" | lines 5) | map prefix "é" | zipSink({ length; peek }, (unlines | headE));
@@ -318,19 +319,19 @@ script_15 = run_statement (piped (piped (source_file_word (codes "d") ∷ lines_
 script_15_effects_1 : effects_of script_15 (known 1 (codes "38") AtEnd nothing_seen) ≡ Open 1 ∷ Close 1 ∷ Put 0 61 ∷ Put 0 32 ∷ Put 0 40 ∷ Put 0 110 ∷
     Put 0 111 ∷ Put 0 110 ∷ Put 0 101 ∷ Put 0 44 ∷ Put 0 32 ∷ Put 0 115 ∷ Put 0 111 ∷ Put 0 109 ∷ Put 0 101 ∷ Put 0 32 ∷ Put 0 49 ∷ Put 0 57 ∷ Put 0
     53 ∷ Put 0 41 ∷ Put 0 10 ∷ []
-unfolding digits encode
+unfolding digits encode chars
 script_15_effects_1 = effects_so _ _
 
 script_15_ending_1 : ending_of script_15 (known 1 (codes "38") AtEnd nothing_seen) ≡ Done Value.Unit
-unfolding digits encode
+unfolding digits encode chars
 script_15_ending_1 = ending_so _ _
 
 script_15_effects_2 : effects_of script_15 (known 1 [] MayGoOn nothing_seen) ≡ Open 1 ∷ []
-unfolding digits encode
+unfolding digits encode chars
 script_15_effects_2 = effects_so _ _
 
 script_15_ending_2 : ending_of script_15 (known 1 [] MayGoOn nothing_seen) ≡ Halts (More (Reading 1))
-unfolding digits encode
+unfolding digits encode chars
 script_15_ending_2 = ending_so _ _
 
 -- run sourceFile "d" | takeWhileE not upper | headE;
@@ -339,21 +340,21 @@ script_16 = run_statement (piped (source_file_word (codes "d") ∷ take_while_e 
 
 script_16_effects_1 : effects_of script_16 (known 1 (195 ∷ 169 ∷ 10 ∷ 226 ∷ 130 ∷ 172 ∷ 97 ∷ 10 ∷ 195 ∷ 169 ∷ 10 ∷ 226 ∷ 130 ∷ []) AtEnd nothing_seen)
     ≡ Open 1 ∷ Put 0 61 ∷ Put 0 32 ∷ Put 0 115 ∷ Put 0 111 ∷ Put 0 109 ∷ Put 0 101 ∷ Put 0 32 ∷ Put 0 49 ∷ Put 0 57 ∷ Put 0 53 ∷ Put 0 10 ∷ []
-unfolding digits encode
+unfolding digits encode chars
 script_16_effects_1 = effects_so _ _
 
 script_16_ending_1 : ending_of script_16 (known 1 (195 ∷ 169 ∷ 10 ∷ 226 ∷ 130 ∷ 172 ∷ 97 ∷ 10 ∷ 195 ∷ 169 ∷ 10 ∷ 226 ∷ 130 ∷ []) AtEnd nothing_seen) ≡
     Done Value.Unit
-unfolding digits encode
+unfolding digits encode chars
 script_16_ending_1 = ending_so _ _
 
 script_16_effects_2 : effects_of script_16 (known 1 (195 ∷ 169 ∷ 10 ∷ 226 ∷ []) Broken nothing_seen) ≡ Open 1 ∷ Put 0 61 ∷ Put 0 32 ∷ Put 0 115 ∷ Put
     0 111 ∷ Put 0 109 ∷ Put 0 101 ∷ Put 0 32 ∷ Put 0 49 ∷ Put 0 57 ∷ Put 0 53 ∷ Put 0 10 ∷ []
-unfolding digits encode
+unfolding digits encode chars
 script_16_effects_2 = effects_so _ _
 
 script_16_ending_2 : ending_of script_16 (known 1 (195 ∷ 169 ∷ 10 ∷ 226 ∷ []) Broken nothing_seen) ≡ Done Value.Unit
-unfolding digits encode
+unfolding digits encode chars
 script_16_ending_2 = ending_so _ _
 
 -- let s0 = seal stdin | split "1" 1;
@@ -367,21 +368,21 @@ script_17 = let_statement (codes "s0") (piped (stdin_word ∷ split_word 49 1 �
 script_17_effects_1 : effects_of script_17 (known 1 (codes "475e6") AtEnd (known 2 (codes "rmp44dfQaZU=") AtEnd (known 3 [] AtEnd nothing_seen))) ≡
     Open 2 ∷ Open 3 ∷ Close 3 ∷ Put 0 61 ∷ Put 0 32 ∷ Put 0 91 ∷ Put 0 93 ∷ Put 0 10 ∷ Put 0 61 ∷ Put 0 32 ∷ Put 0 110 ∷ Put 0 111 ∷ Put 0 110 ∷ Put 0
     101 ∷ Put 0 10 ∷ []
-unfolding digits encode
+unfolding digits encode chars
 script_17_effects_1 = effects_so _ _
 
 script_17_ending_1 : ending_of script_17 (known 1 (codes "475e6") AtEnd (known 2 (codes "rmp44dfQaZU=") AtEnd (known 3 [] AtEnd nothing_seen))) ≡ Done
     Value.Unit
-unfolding digits encode
+unfolding digits encode chars
 script_17_ending_1 = ending_so _ _
 
 script_17_effects_2 : effects_of script_17 (known 1 [] MayGoOn (known 2 (codes "rmp44dfQ") MayGoOn (known 3 [] MayGoOn nothing_seen))) ≡ Open 2 ∷ []
-unfolding digits encode
+unfolding digits encode chars
 script_17_effects_2 = effects_so _ _
 
 script_17_ending_2 : ending_of script_17 (known 1 [] MayGoOn (known 2 (codes "rmp44dfQ") MayGoOn (known 3 [] MayGoOn nothing_seen))) ≡ Halts (More
     (Reading 2))
-unfolding digits encode
+unfolding digits encode chars
 script_17_ending_2 = ending_so _ _
 
 -- run { (sourceFile "a" | chunksOf 65536); replicate 5 "a" } | collect 50;
@@ -392,19 +393,19 @@ script_18 = run_statement (piped (sequence_form (piped (source_file_word (codes 
 script_18_effects_1 : effects_of script_18 (known 1 [] AtEnd nothing_seen) ≡ Open 1 ∷ Close 1 ∷ Put 0 61 ∷ Put 0 32 ∷ Put 0 91 ∷ Put 0 34 ∷ Put 0 97 ∷
     Put 0 34 ∷ Put 0 44 ∷ Put 0 32 ∷ Put 0 34 ∷ Put 0 97 ∷ Put 0 34 ∷ Put 0 44 ∷ Put 0 32 ∷ Put 0 34 ∷ Put 0 97 ∷ Put 0 34 ∷ Put 0 44 ∷ Put 0 32 ∷ Put
     0 34 ∷ Put 0 97 ∷ Put 0 34 ∷ Put 0 44 ∷ Put 0 32 ∷ Put 0 34 ∷ Put 0 97 ∷ Put 0 34 ∷ Put 0 93 ∷ Put 0 10 ∷ []
-unfolding digits encode
+unfolding digits encode chars
 script_18_effects_1 = effects_so _ _
 
 script_18_ending_1 : ending_of script_18 (known 1 [] AtEnd nothing_seen) ≡ Done Value.Unit
-unfolding digits encode
+unfolding digits encode chars
 script_18_ending_1 = ending_so _ _
 
 script_18_effects_2 : effects_of script_18 (known 1 [] Broken nothing_seen) ≡ Open 1 ∷ []
-unfolding digits encode
+unfolding digits encode chars
 script_18_effects_2 = effects_so _ _
 
 script_18_ending_2 : ending_of script_18 (known 1 [] Broken nothing_seen) ≡ Halts (Stop (ReadBad 1))
-unfolding digits encode
+unfolding digits encode chars
 script_18_ending_2 = ending_so _ _
 
 -- run sourceFile "c" | utf8 | repeatE 2 | { { collectE 3 }; mapE rot13; exactlyE 4 { takeWhileE alpha } } | lengthE;
@@ -416,22 +417,22 @@ script_19 = run_statement (piped (source_file_word (codes "c") ∷ utf8_word ∷
 
 script_19_effects_1 : effects_of script_19 (known 1 (99 ∷ 10 ∷ 49 ∷ 98 ∷ 99 ∷ 32 ∷ 97 ∷ 120 ∷ 10 ∷ 32 ∷ 44 ∷ 10 ∷ 98 ∷ []) AtEnd (known 2 (codes
     "YtxNOA==YtxN") AtEnd nothing_seen)) ≡ Open 1 ∷ Close 1 ∷ Put 0 61 ∷ Put 0 32 ∷ Put 0 50 ∷ Put 0 51 ∷ Put 0 10 ∷ Open 2 ∷ Close 2 ∷ []
-unfolding digits encode
+unfolding digits encode chars
 script_19_effects_1 = effects_so _ _
 
 script_19_ending_1 : ending_of script_19 (known 1 (99 ∷ 10 ∷ 49 ∷ 98 ∷ 99 ∷ 32 ∷ 97 ∷ 120 ∷ 10 ∷ 32 ∷ 44 ∷ 10 ∷ 98 ∷ []) AtEnd (known 2 (codes
     "YtxNOA==YtxN") AtEnd nothing_seen)) ≡ Done Value.Unit
-unfolding digits encode
+unfolding digits encode chars
 script_19_ending_1 = ending_so _ _
 
 script_19_effects_2 : effects_of script_19 (known 1 (99 ∷ 10 ∷ 49 ∷ 98 ∷ 99 ∷ 32 ∷ 97 ∷ 120 ∷ 10 ∷ 32 ∷ 44 ∷ 10 ∷ 98 ∷ []) MayGoOn (known 2 (codes
     "YtxNOA==") Broken nothing_seen)) ≡ Open 1 ∷ []
-unfolding digits encode
+unfolding digits encode chars
 script_19_effects_2 = effects_so _ _
 
 script_19_ending_2 : ending_of script_19 (known 1 (99 ∷ 10 ∷ 49 ∷ 98 ∷ 99 ∷ 32 ∷ 97 ∷ 120 ∷ 10 ∷ 32 ∷ 44 ∷ 10 ∷ 98 ∷ []) MayGoOn (known 2 (codes
     "YtxNOA==") Broken nothing_seen)) ≡ Halts (More (Reading 1))
-unfolding digits encode
+unfolding digits encode chars
 script_19_ending_2 = ending_so _ _
 
 -- run { stdin; mark "m1" { sourceFile "a" } } | utf8 | (repeatE 0 | zipSink(lastE, nullE));
@@ -442,19 +443,19 @@ script_20 = run_statement (piped (sequence_form (stdin_word ∷ mark_form (codes
 script_20_effects_1 : effects_of script_20 (known 1 (codes "b") AtEnd (known 3 (10 ∷ 10 ∷ 98 ∷ 98 ∷ 98 ∷ []) AtEnd nothing_seen)) ≡ Open 2 ∷ Open 3 ∷
     Close 3 ∷ Close 2 ∷ Put 0 61 ∷ Put 0 32 ∷ Put 0 40 ∷ Put 0 110 ∷ Put 0 111 ∷ Put 0 110 ∷ Put 0 101 ∷ Put 0 44 ∷ Put 0 32 ∷ Put 0 116 ∷ Put 0 114 ∷
     Put 0 117 ∷ Put 0 101 ∷ Put 0 41 ∷ Put 0 10 ∷ []
-unfolding digits encode
+unfolding digits encode chars
 script_20_effects_1 = effects_so _ _
 
 script_20_ending_1 : ending_of script_20 (known 1 (codes "b") AtEnd (known 3 (10 ∷ 10 ∷ 98 ∷ 98 ∷ 98 ∷ []) AtEnd nothing_seen)) ≡ Done Value.Unit
-unfolding digits encode
+unfolding digits encode chars
 script_20_ending_1 = ending_so _ _
 
 script_20_effects_2 : effects_of script_20 (known 1 [] MayGoOn (known 3 (10 ∷ []) MayGoOn nothing_seen)) ≡ []
-unfolding digits encode
+unfolding digits encode chars
 script_20_effects_2 = effects_so _ _
 
 script_20_ending_2 : ending_of script_20 (known 1 [] MayGoOn (known 3 (10 ∷ []) MayGoOn nothing_seen)) ≡ Halts (More (Reading 1))
-unfolding digits encode
+unfolding digits encode chars
 script_20_ending_2 = ending_so _ _
 
 -- run range 8 11 | zipSink(dropWhile empty, mark "m1" { length });
@@ -463,9 +464,9 @@ script_21 = run_statement (piped (range_word 8 11 ∷ zip_sink_form (drop_while_
 
 script_21_effects_1 : effects_of script_21 nothing_seen ≡ Open 1 ∷ Close 1 ∷ Put 0 61 ∷ Put 0 32 ∷ Put 0 40 ∷ Put 0 40 ∷ Put 0 41 ∷ Put 0 44 ∷ Put 0
     32 ∷ Put 0 52 ∷ Put 0 41 ∷ Put 0 10 ∷ []
-unfolding digits encode
+unfolding digits encode chars
 script_21_effects_1 = effects_so _ _
 
 script_21_ending_1 : ending_of script_21 nothing_seen ≡ Done Value.Unit
-unfolding digits encode
+unfolding digits encode chars
 script_21_ending_1 = ending_so _ _

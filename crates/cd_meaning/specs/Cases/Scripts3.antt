@@ -2,6 +2,7 @@
 use Rattle.std.specs.Prelude.{List, [], ◌∷◌, ◌≡◌, codes}
 use Rattle.std.specs.Fmt.{digits}
 use lib.Utf8.{encode}
+use Rattle.std.specs.Str.{chars}
 use Rattle.cd_meaning.specs.Stream.{Value, Reading, More, Stop, bad_base64, ReadBad, Done, Halts, Open, Put, Close}
 use Rattle.cd_meaning.specs.RunShapes.{AtEnd, MayGoOn, Broken}
 use Rattle.cd_meaning.specs.Rows.Trees.{Sentence}
@@ -16,21 +17,21 @@ script_43 = run_statement (piped (source_file_word (codes "d") ∷ utf8_word ∷
 script_43_effects_1 : effects_of script_43 (known 1 (98 ∷ 44 ∷ 45 ∷ 97 ∷ 120 ∷ 120 ∷ 98 ∷ 97 ∷ 45 ∷ 45 ∷ 98 ∷ 98 ∷ 44 ∷ 44 ∷ 49 ∷ 98 ∷ 120 ∷ 10 ∷ 10 ∷
     44 ∷ []) AtEnd nothing_seen) ≡ Open 1 ∷ Put 0 61 ∷ Put 0 32 ∷ Put 0 115 ∷ Put 0 111 ∷ Put 0 109 ∷ Put 0 101 ∷ Put 0 32 ∷ Put 0 34 ∷ Put 0 98 ∷ Put
     0 34 ∷ Put 0 10 ∷ []
-unfolding digits encode
+unfolding digits encode chars
 script_43_effects_1 = effects_so _ _
 
 script_43_ending_1 : ending_of script_43 (known 1 (98 ∷ 44 ∷ 45 ∷ 97 ∷ 120 ∷ 120 ∷ 98 ∷ 97 ∷ 45 ∷ 45 ∷ 98 ∷ 98 ∷ 44 ∷ 44 ∷ 49 ∷ 98 ∷ 120 ∷ 10 ∷ 10 ∷
     44 ∷ []) AtEnd nothing_seen) ≡ Done Value.Unit
-unfolding digits encode
+unfolding digits encode chars
 script_43_ending_1 = ending_so _ _
 
 script_43_effects_2 : effects_of script_43 (known 1 (codes "b,-a") MayGoOn nothing_seen) ≡ Open 1 ∷ Put 0 61 ∷ Put 0 32 ∷ Put 0 115 ∷ Put 0 111 ∷ Put
     0 109 ∷ Put 0 101 ∷ Put 0 32 ∷ Put 0 34 ∷ Put 0 98 ∷ Put 0 34 ∷ Put 0 10 ∷ []
-unfolding digits encode
+unfolding digits encode chars
 script_43_effects_2 = effects_so _ _
 
 script_43_ending_2 : ending_of script_43 (known 1 (codes "b,-a") MayGoOn nothing_seen) ≡ Done Value.Unit
-unfolding digits encode
+unfolding digits encode chars
 script_43_ending_2 = ending_so _ _
 
 -- run mark "m1" { stdin } | (takeWhileE newline | stdout);
@@ -38,19 +39,19 @@ abbrev script_44 : List Sentence
 script_44 = run_statement (piped (mark_form (codes "m1") stdin_word ∷ piped (take_while_e newline ∷ stdout_word ∷ []) ∷ [])) ∷ []
 
 script_44_effects_1 : effects_of script_44 (known 2 (98 ∷ 10 ∷ []) AtEnd nothing_seen) ≡ Open 1 ∷ []
-unfolding digits encode
+unfolding digits encode chars
 script_44_effects_1 = effects_so _ _
 
 script_44_ending_1 : ending_of script_44 (known 2 (98 ∷ 10 ∷ []) AtEnd nothing_seen) ≡ Done Value.Unit
-unfolding digits encode
+unfolding digits encode chars
 script_44_ending_1 = ending_so _ _
 
 script_44_effects_2 : effects_of script_44 (known 2 (codes "b") MayGoOn nothing_seen) ≡ Open 1 ∷ []
-unfolding digits encode
+unfolding digits encode chars
 script_44_effects_2 = effects_so _ _
 
 script_44_ending_2 : ending_of script_44 (known 2 (codes "b") MayGoOn nothing_seen) ≡ Done Value.Unit
-unfolding digits encode
+unfolding digits encode chars
 script_44_ending_2 = ending_so _ _
 
 -- run { bytes "\n"; { sourceFile "c"; sourceFile "d" } } | ((mapE rot13 |= split "\n" 1) | takeWhile shorter 2) | (take 1 | unlines) | collectE 1;
@@ -61,21 +62,21 @@ script_46 = run_statement (piped (sequence_form (bytes_word (10 ∷ []) ∷ sequ
 
 script_46_effects_1 : effects_of script_46 (known 1 (0 ∷ 0 ∷ 0 ∷ 0 ∷ 0 ∷ 0 ∷ 0 ∷ 1 ∷ 97 ∷ 0 ∷ 0 ∷ 0 ∷ 1 ∷ 98 ∷ 0 ∷ []) AtEnd (known 2 (10 ∷ 10 ∷ 10 ∷
     []) AtEnd nothing_seen)) ≡ Put 0 61 ∷ Put 0 32 ∷ Put 0 34 ∷ Put 0 92 ∷ Put 0 120 ∷ Put 0 48 ∷ Put 0 97 ∷ Put 0 34 ∷ Put 0 10 ∷ []
-unfolding digits encode
+unfolding digits encode chars
 script_46_effects_1 = effects_so _ _
 
 script_46_ending_1 : ending_of script_46 (known 1 (0 ∷ 0 ∷ 0 ∷ 0 ∷ 0 ∷ 0 ∷ 0 ∷ 1 ∷ 97 ∷ 0 ∷ 0 ∷ 0 ∷ 1 ∷ 98 ∷ 0 ∷ []) AtEnd (known 2 (10 ∷ 10 ∷ 10 ∷
     []) AtEnd nothing_seen)) ≡ Done Value.Unit
-unfolding digits encode
+unfolding digits encode chars
 script_46_ending_1 = ending_so _ _
 
 script_46_effects_2 : effects_of script_46 (known 1 (0 ∷ 0 ∷ 0 ∷ 0 ∷ 0 ∷ 0 ∷ 0 ∷ []) Broken (known 2 (10 ∷ []) MayGoOn nothing_seen)) ≡ Put 0 61 ∷ Put
     0 32 ∷ Put 0 34 ∷ Put 0 92 ∷ Put 0 120 ∷ Put 0 48 ∷ Put 0 97 ∷ Put 0 34 ∷ Put 0 10 ∷ []
-unfolding digits encode
+unfolding digits encode chars
 script_46_effects_2 = effects_so _ _
 
 script_46_ending_2 : ending_of script_46 (known 1 (0 ∷ 0 ∷ 0 ∷ 0 ∷ 0 ∷ 0 ∷ 0 ∷ []) Broken (known 2 (10 ∷ []) MayGoOn nothing_seen)) ≡ Done Value.Unit
-unfolding digits encode
+unfolding digits encode chars
 script_46_ending_2 = ending_so _ _
 
 -- run ({ sourceFile "d"; sourceFile "a" } | utf8) | filterE alnum | { split "1" 4; split "-" 3 } | ((pass | flat) | chunksOf 2) | length;
@@ -86,19 +87,19 @@ script_47 = run_statement (piped (piped (sequence_form (source_file_word (codes 
 
 script_47_effects_1 : effects_of script_47 (known 1 (codes "a") AtEnd (known 2 (codes "Ce850") AtEnd nothing_seen)) ≡ Open 1 ∷ Close 1 ∷ Open 2 ∷
     Close 2 ∷ Put 0 61 ∷ Put 0 32 ∷ Put 0 51 ∷ Put 0 10 ∷ []
-unfolding digits encode
+unfolding digits encode chars
 script_47_effects_1 = effects_so _ _
 
 script_47_ending_1 : ending_of script_47 (known 1 (codes "a") AtEnd (known 2 (codes "Ce850") AtEnd nothing_seen)) ≡ Done Value.Unit
-unfolding digits encode
+unfolding digits encode chars
 script_47_ending_1 = ending_so _ _
 
 script_47_effects_2 : effects_of script_47 (known 1 [] MayGoOn (known 2 (codes "Ce") MayGoOn nothing_seen)) ≡ Open 1 ∷ []
-unfolding digits encode
+unfolding digits encode chars
 script_47_effects_2 = effects_so _ _
 
 script_47_ending_2 : ending_of script_47 (known 1 [] MayGoOn (known 2 (codes "Ce") MayGoOn nothing_seen)) ≡ Halts (More (Reading 1))
-unfolding digits encode
+unfolding digits encode chars
 script_47_ending_2 = ending_so _ _
 
 -- run (zipSource(sourceFile "c" | lines 9, sourceFile "c" | lines 9, "ab") | exactly 3 { intersperse "x\n" }) | flat | stdout;
@@ -110,22 +111,22 @@ script_48 = run_statement (piped (piped (zip_source_form (codes "ab") (piped (so
 script_48_effects_1 : effects_of script_48 (known 1 (97 ∷ 10 ∷ 13 ∷ 10 ∷ 10 ∷ 13 ∷ 10 ∷ 10 ∷ []) AtEnd (known 2 (97 ∷ 10 ∷ 13 ∷ 10 ∷ 10 ∷ 13 ∷ 10 ∷ 10
     ∷ []) AtEnd nothing_seen)) ≡ Open 1 ∷ Open 2 ∷ Put 3 97 ∷ Put 3 97 ∷ Put 3 98 ∷ Put 3 97 ∷ Put 3 120 ∷ Put 3 10 ∷ Put 3 13 ∷ Put 3 97 ∷ Put 3 98 ∷
     Put 3 13 ∷ Put 3 120 ∷ Put 3 10 ∷ Put 3 97 ∷ Put 3 98 ∷ []
-unfolding digits encode
+unfolding digits encode chars
 script_48_effects_1 = effects_so _ _
 
 script_48_ending_1 : ending_of script_48 (known 1 (97 ∷ 10 ∷ 13 ∷ 10 ∷ 10 ∷ 13 ∷ 10 ∷ 10 ∷ []) AtEnd (known 2 (97 ∷ 10 ∷ 13 ∷ 10 ∷ 10 ∷ 13 ∷ 10 ∷ 10 ∷
     []) AtEnd nothing_seen)) ≡ Done Value.Unit
-unfolding digits encode
+unfolding digits encode chars
 script_48_ending_1 = ending_so _ _
 
 script_48_effects_2 : effects_of script_48 (known 1 (97 ∷ 10 ∷ 13 ∷ 10 ∷ 10 ∷ []) MayGoOn (known 2 (97 ∷ 10 ∷ 13 ∷ 10 ∷ []) MayGoOn nothing_seen)) ≡
     Open 1 ∷ Open 2 ∷ Put 3 97 ∷ Put 3 97 ∷ Put 3 98 ∷ Put 3 97 ∷ Put 3 120 ∷ Put 3 10 ∷ Put 3 13 ∷ Put 3 97 ∷ Put 3 98 ∷ Put 3 13 ∷ []
-unfolding digits encode
+unfolding digits encode chars
 script_48_effects_2 = effects_so _ _
 
 script_48_ending_2 : ending_of script_48 (known 1 (97 ∷ 10 ∷ 13 ∷ 10 ∷ 10 ∷ []) MayGoOn (known 2 (97 ∷ 10 ∷ 13 ∷ 10 ∷ []) MayGoOn nothing_seen)) ≡
     Halts (More (Reading 2))
-unfolding digits encode
+unfolding digits encode chars
 script_48_ending_2 = ending_so _ _
 
 -- run range 8 7 | ((filter shorter 1 | takeWhile not begins "x\n") | (filter not begins "ab\n\"" |+ dropWhile empty));
@@ -135,11 +136,11 @@ script_52 = run_statement (piped (range_word 8 7 ∷ piped (piped (filter_word (
 
 script_52_effects_1 : effects_of script_52 nothing_seen ≡ Put 0 61 ∷ Put 0 32 ∷ Put 0 40 ∷ Put 0 40 ∷ Put 0 41 ∷ Put 0 44 ∷ Put 0 32 ∷ Put 0 91 ∷ Put
     0 93 ∷ Put 0 41 ∷ Put 0 10 ∷ []
-unfolding digits encode
+unfolding digits encode chars
 script_52_effects_1 = effects_so _ _
 
 script_52_ending_1 : ending_of script_52 nothing_seen ≡ Done Value.Unit
-unfolding digits encode
+unfolding digits encode chars
 script_52_ending_1 = ending_so _ _
 
 -- run ((stdin | base64Decode) | lineE { base64Decode }) | repeatE 0 | base64Encode | sinkFile "x2";
@@ -149,22 +150,22 @@ script_53 = run_statement (piped (piped (piped (stdin_word ∷ base64_decode_wor
 
 script_53_effects_1 : effects_of script_53 (known 1 (49 ∷ 32 ∷ 97 ∷ 10 ∷ 32 ∷ 97 ∷ 45 ∷ 32 ∷ 97 ∷ 44 ∷ 98 ∷ 99 ∷ 98 ∷ []) AtEnd nothing_seen) ≡ Open 2
     ∷ []
-unfolding digits encode
+unfolding digits encode chars
 script_53_effects_1 = effects_so _ _
 
 script_53_ending_1 : ending_of script_53 (known 1 (49 ∷ 32 ∷ 97 ∷ 10 ∷ 32 ∷ 97 ∷ 45 ∷ 32 ∷ 97 ∷ 44 ∷ 98 ∷ 99 ∷ 98 ∷ []) AtEnd nothing_seen) ≡ Halts
     (Stop (bad_base64 0))
-unfolding digits encode
+unfolding digits encode chars
 script_53_ending_1 = ending_so _ _
 
 script_53_effects_2 : effects_of script_53 (known 1 (49 ∷ 32 ∷ 97 ∷ 10 ∷ 32 ∷ 97 ∷ 45 ∷ 32 ∷ 97 ∷ 44 ∷ 98 ∷ 99 ∷ []) MayGoOn nothing_seen) ≡ Open 2 ∷
     []
-unfolding digits encode
+unfolding digits encode chars
 script_53_effects_2 = effects_so _ _
 
 script_53_ending_2 : ending_of script_53 (known 1 (49 ∷ 32 ∷ 97 ∷ 10 ∷ 32 ∷ 97 ∷ 45 ∷ 32 ∷ 97 ∷ 44 ∷ 98 ∷ 99 ∷ []) MayGoOn nothing_seen) ≡ Halts (Stop
     (bad_base64 0))
-unfolding digits encode
+unfolding digits encode chars
 script_53_ending_2 = ending_so _ _
 
 -- run sourceFile "missing" | base64Encode | stdout;
@@ -178,21 +179,21 @@ script_54 = run_statement (piped (source_file_word (codes "missing") ∷ base64_
 script_54_effects_1 : effects_of script_54 (known 1 [] AtEnd (known 3 (10 ∷ 13 ∷ 97 ∷ 10 ∷ []) AtEnd (known 5 (codes "3:,,:,9:a1,a1b,,a,0:,9") AtEnd
     nothing_seen))) ≡ Open 1 ∷ Close 1 ∷ Open 4 ∷ Open 3 ∷ Close 4 ∷ Put 0 61 ∷ Put 0 32 ∷ Put 0 34 ∷ Put 0 34 ∷ Put 0 10 ∷ Open 5 ∷ Put 0 61 ∷ Put 0
     32 ∷ Put 0 102 ∷ Put 0 97 ∷ Put 0 108 ∷ Put 0 115 ∷ Put 0 101 ∷ Put 0 10 ∷ []
-unfolding digits encode
+unfolding digits encode chars
 script_54_effects_1 = effects_so _ _
 
 script_54_ending_1 : ending_of script_54 (known 1 [] AtEnd (known 3 (10 ∷ 13 ∷ 97 ∷ 10 ∷ []) AtEnd (known 5 (codes "3:,,:,9:a1,a1b,,a,0:,9") AtEnd
     nothing_seen))) ≡ Done Value.Unit
-unfolding digits encode
+unfolding digits encode chars
 script_54_ending_1 = ending_so _ _
 
 script_54_effects_2 : effects_of script_54 (known 1 [] MayGoOn (known 3 (10 ∷ 13 ∷ 97 ∷ []) MayGoOn (known 5 [] Broken nothing_seen))) ≡ Open 1 ∷ []
-unfolding digits encode
+unfolding digits encode chars
 script_54_effects_2 = effects_so _ _
 
 script_54_ending_2 : ending_of script_54 (known 1 [] MayGoOn (known 3 (10 ∷ 13 ∷ 97 ∷ []) MayGoOn (known 5 [] Broken nothing_seen))) ≡ Halts (More
     (Reading 1))
-unfolding digits encode
+unfolding digits encode chars
 script_54_ending_2 = ending_so _ _
 
 -- run zipSource(sourceFile "c" | lines 9, sourceFile "c" | lines 9, "0") | flat | { { sinkNull; nullE }; dropWhileE not digit; zipSink(collectE 50, headE) };
@@ -204,19 +205,19 @@ script_57 = run_statement (piped (zip_source_form (codes "0") (piped (source_fil
 script_57_effects_1 : effects_of script_57 (known 1 (codes "AR8=") AtEnd (known 2 (codes "AR8=") AtEnd nothing_seen)) ≡ Open 1 ∷ Close 1 ∷ Open 2 ∷
     Close 2 ∷ Put 0 61 ∷ Put 0 32 ∷ Put 0 40 ∷ Put 0 34 ∷ Put 0 34 ∷ Put 0 44 ∷ Put 0 32 ∷ Put 0 110 ∷ Put 0 111 ∷ Put 0 110 ∷ Put 0 101 ∷ Put 0 41 ∷
     Put 0 10 ∷ []
-unfolding digits encode
+unfolding digits encode chars
 script_57_effects_1 = effects_so _ _
 
 script_57_ending_1 : ending_of script_57 (known 1 (codes "AR8=") AtEnd (known 2 (codes "AR8=") AtEnd nothing_seen)) ≡ Done Value.Unit
-unfolding digits encode
+unfolding digits encode chars
 script_57_ending_1 = ending_so _ _
 
 script_57_effects_2 : effects_of script_57 (known 1 (codes "A") MayGoOn (known 2 (codes "A") MayGoOn nothing_seen)) ≡ Open 1 ∷ []
-unfolding digits encode
+unfolding digits encode chars
 script_57_effects_2 = effects_so _ _
 
 script_57_ending_2 : ending_of script_57 (known 1 (codes "A") MayGoOn (known 2 (codes "A") MayGoOn nothing_seen)) ≡ Halts (More (Reading 1))
-unfolding digits encode
+unfolding digits encode chars
 script_57_ending_2 = ending_so _ _
 
 -- run text "" | utf8Encode | (split "\n" 80 | exactly 4 { unlines }) | mark "m1" { lineE { utf8 } } | collectE 50;
@@ -227,11 +228,11 @@ script_58 = run_statement (piped (text_word [] ∷ utf8_encode_word ∷ piped (s
     9 ∷ stdout_word ∷ [])) ∷ []
 
 script_58_effects_1 : effects_of script_58 nothing_seen ≡ Open 1 ∷ Close 1 ∷ Put 0 61 ∷ Put 0 32 ∷ Put 0 34 ∷ Put 0 34 ∷ Put 0 10 ∷ []
-unfolding digits encode
+unfolding digits encode chars
 script_58_effects_1 = effects_so _ _
 
 script_58_ending_1 : ending_of script_58 nothing_seen ≡ Done Value.Unit
-unfolding digits encode
+unfolding digits encode chars
 script_58_ending_1 = ending_so _ _
 
 -- run sourceFile "a" | chunksOf 1 | (take 2 | (map reverse | head));
@@ -241,21 +242,21 @@ script_59 = run_statement (piped (source_file_word (codes "a") ∷ chunks_of_wor
 
 script_59_effects_1 : effects_of script_59 (known 1 (98 ∷ 10 ∷ 10 ∷ 10 ∷ 10 ∷ 10 ∷ 10 ∷ 98 ∷ 98 ∷ 10 ∷ 97 ∷ 10 ∷ 10 ∷ []) AtEnd nothing_seen) ≡ Open 1
     ∷ Put 0 61 ∷ Put 0 32 ∷ Put 0 115 ∷ Put 0 111 ∷ Put 0 109 ∷ Put 0 101 ∷ Put 0 32 ∷ Put 0 34 ∷ Put 0 98 ∷ Put 0 34 ∷ Put 0 10 ∷ []
-unfolding digits encode
+unfolding digits encode chars
 script_59_effects_1 = effects_so _ _
 
 script_59_ending_1 : ending_of script_59 (known 1 (98 ∷ 10 ∷ 10 ∷ 10 ∷ 10 ∷ 10 ∷ 10 ∷ 98 ∷ 98 ∷ 10 ∷ 97 ∷ 10 ∷ 10 ∷ []) AtEnd nothing_seen) ≡ Done
     Value.Unit
-unfolding digits encode
+unfolding digits encode chars
 script_59_ending_1 = ending_so _ _
 
 script_59_effects_2 : effects_of script_59 (known 1 (98 ∷ 10 ∷ []) MayGoOn nothing_seen) ≡ Open 1 ∷ Put 0 61 ∷ Put 0 32 ∷ Put 0 115 ∷ Put 0 111 ∷ Put
     0 109 ∷ Put 0 101 ∷ Put 0 32 ∷ Put 0 34 ∷ Put 0 98 ∷ Put 0 34 ∷ Put 0 10 ∷ []
-unfolding digits encode
+unfolding digits encode chars
 script_59_effects_2 = effects_so _ _
 
 script_59_ending_2 : ending_of script_59 (known 1 (98 ∷ 10 ∷ []) MayGoOn nothing_seen) ≡ Done Value.Unit
-unfolding digits encode
+unfolding digits encode chars
 script_59_ending_2 = ending_so _ _
 
 -- run texts ["\\", "\\", "😀", "😀"] | (map prefix "-x\n0" |= (map reverse |= unlines)) | ({ split "-" 2; anyE not lower } |& length);
@@ -266,11 +267,11 @@ script_60 = run_statement (piped (texts_word ((92 ∷ []) ∷ (92 ∷ []) ∷ (2
 
 script_60_effects_1 : effects_of script_60 nothing_seen ≡ Put 0 61 ∷ Put 0 32 ∷ Put 0 40 ∷ Put 0 102 ∷ Put 0 97 ∷ Put 0 108 ∷ Put 0 115 ∷ Put 0 101 ∷
     Put 0 44 ∷ Put 0 32 ∷ Put 0 49 ∷ Put 0 50 ∷ Put 0 41 ∷ Put 0 10 ∷ []
-unfolding digits encode
+unfolding digits encode chars
 script_60_effects_1 = effects_so _ _
 
 script_60_ending_1 : ending_of script_60 nothing_seen ≡ Done Value.Unit
-unfolding digits encode
+unfolding digits encode chars
 script_60_ending_1 = ending_so _ _
 
 -- run (zipSource(blocks ["😀", ",", "\n", "0"], sourceFile "a" | lines 9, "x\n") | { unlines; unlines }) | utf8 | lastE;
@@ -285,19 +286,19 @@ script_61_effects_1 : effects_of script_61 (known 1 (codes "JyYK/7W6MBk=") AtEnd
     Put 0 111 ∷ Put 0 109 ∷ Put 0 101 ∷ Put 0 32 ∷ Put 0 34 ∷ Put 0 92 ∷ Put 0 117 ∷ Put 0 123 ∷ Put 0 97 ∷ Put 0 125 ∷ Put 0 34 ∷ Put 0 10 ∷ Open 2 ∷
     Close 2 ∷ Put 0 61 ∷ Put 0 32 ∷ Put 0 115 ∷ Put 0 111 ∷ Put 0 109 ∷ Put 0 101 ∷ Put 0 32 ∷ Put 0 34 ∷ Put 0 120 ∷ Put 0 92 ∷ Put 0 120 ∷ Put 0 48
     ∷ Put 0 97 ∷ Put 0 34 ∷ Put 0 10 ∷ []
-unfolding digits encode
+unfolding digits encode chars
 script_61_effects_1 = effects_so _ _
 
 script_61_ending_1 : ending_of script_61 (known 1 (codes "JyYK/7W6MBk=") AtEnd nothing_seen) ≡ Done Value.Unit
-unfolding digits encode
+unfolding digits encode chars
 script_61_ending_1 = ending_so _ _
 
 script_61_effects_2 : effects_of script_61 (known 1 (codes "JyYK/7") MayGoOn nothing_seen) ≡ Open 1 ∷ []
-unfolding digits encode
+unfolding digits encode chars
 script_61_effects_2 = effects_so _ _
 
 script_61_ending_2 : ending_of script_61 (known 1 (codes "JyYK/7") MayGoOn nothing_seen) ≡ Halts (More (Reading 1))
-unfolding digits encode
+unfolding digits encode chars
 script_61_ending_2 = ending_so _ _
 
 -- run ((bytes "\\" | takeE 4) | split "1" 2) | zipConduit((repeat 3 | map reverse), filter not begins ",") | ((filter shorter 9 | take 9) | length);
@@ -310,19 +311,19 @@ script_64 = run_statement (piped (piped (piped (bytes_word (92 ∷ []) ∷ take_
 
 script_64_effects_1 : effects_of script_64 (known 1 [] AtEnd nothing_seen) ≡ Put 0 61 ∷ Put 0 32 ∷ Put 0 52 ∷ Put 0 10 ∷ Open 1 ∷ Close 1 ∷ Put 0 61 ∷
     Put 0 32 ∷ Put 0 48 ∷ Put 0 10 ∷ []
-unfolding digits encode
+unfolding digits encode chars
 script_64_effects_1 = effects_so _ _
 
 script_64_ending_1 : ending_of script_64 (known 1 [] AtEnd nothing_seen) ≡ Done Value.Unit
-unfolding digits encode
+unfolding digits encode chars
 script_64_ending_1 = ending_so _ _
 
 script_64_effects_2 : effects_of script_64 (known 1 [] MayGoOn nothing_seen) ≡ Put 0 61 ∷ Put 0 32 ∷ Put 0 52 ∷ Put 0 10 ∷ Open 1 ∷ []
-unfolding digits encode
+unfolding digits encode chars
 script_64_effects_2 = effects_so _ _
 
 script_64_ending_2 : ending_of script_64 (known 1 [] MayGoOn nothing_seen) ≡ Halts (More (Reading 1))
-unfolding digits encode
+unfolding digits encode chars
 script_64_ending_2 = ending_so _ _
 
 -- run { sourceFile "a"; sourceFile "d" } | base64Encode | nullE;
@@ -332,19 +333,19 @@ script_65 = run_statement (piped (sequence_form (source_file_word (codes "a") �
 
 script_65_effects_1 : effects_of script_65 (known 1 (codes "b") AtEnd (known 2 [] AtEnd nothing_seen)) ≡ Open 1 ∷ Close 1 ∷ Open 2 ∷ Close 2 ∷ Put 0
     61 ∷ Put 0 32 ∷ Put 0 102 ∷ Put 0 97 ∷ Put 0 108 ∷ Put 0 115 ∷ Put 0 101 ∷ Put 0 10 ∷ []
-unfolding digits encode
+unfolding digits encode chars
 script_65_effects_1 = effects_so _ _
 
 script_65_ending_1 : ending_of script_65 (known 1 (codes "b") AtEnd (known 2 [] AtEnd nothing_seen)) ≡ Done Value.Unit
-unfolding digits encode
+unfolding digits encode chars
 script_65_ending_1 = ending_so _ _
 
 script_65_effects_2 : effects_of script_65 (known 1 (codes "b") Broken (known 2 [] Broken nothing_seen)) ≡ Open 1 ∷ []
-unfolding digits encode
+unfolding digits encode chars
 script_65_effects_2 = effects_so _ _
 
 script_65_ending_2 : ending_of script_65 (known 1 (codes "b") Broken (known 2 [] Broken nothing_seen)) ≡ Halts (Stop (ReadBad 1))
-unfolding digits encode
+unfolding digits encode chars
 script_65_ending_2 = ending_so _ _
 
 -- run sourceFile "b" | filterE not is "\n" | takeWhileE lower | (mapE rot13 |= filterE not lower) | stdout;
@@ -353,19 +354,19 @@ script_71 = run_statement (piped (source_file_word (codes "b") ∷ filter_e (not
     filter_e (not_class lower) ∷ []) ∷ stdout_word ∷ [])) ∷ []
 
 script_71_effects_1 : effects_of script_71 (known 1 (codes "92340785") AtEnd nothing_seen) ≡ Open 1 ∷ []
-unfolding digits encode
+unfolding digits encode chars
 script_71_effects_1 = effects_so _ _
 
 script_71_ending_1 : ending_of script_71 (known 1 (codes "92340785") AtEnd nothing_seen) ≡ Done Value.Unit
-unfolding digits encode
+unfolding digits encode chars
 script_71_ending_1 = ending_so _ _
 
 script_71_effects_2 : effects_of script_71 (known 1 (codes "923") MayGoOn nothing_seen) ≡ Open 1 ∷ []
-unfolding digits encode
+unfolding digits encode chars
 script_71_effects_2 = effects_so _ _
 
 script_71_ending_2 : ending_of script_71 (known 1 (codes "923") MayGoOn nothing_seen) ≡ Done Value.Unit
-unfolding digits encode
+unfolding digits encode chars
 script_71_ending_2 = ending_so _ _
 
 -- run range 95 96 | map suffix "\u{7f}" | { zipSink(collect 0, head) };
@@ -378,21 +379,21 @@ script_72_effects_1 : effects_of script_72 (known 1 (44 ∷ 10 ∷ 98 ∷ 97 ∷
     93 ∷ Put 0 44 ∷ Put 0 32 ∷ Put 0 115 ∷ Put 0 111 ∷ Put 0 109 ∷ Put 0 101 ∷ Put 0 32 ∷ Put 0 34 ∷ Put 0 57 ∷ Put 0 53 ∷ Put 0 92 ∷ Put 0 120 ∷ Put
     0 55 ∷ Put 0 102 ∷ Put 0 34 ∷ Put 0 41 ∷ Put 0 10 ∷ Open 1 ∷ Close 1 ∷ Put 0 61 ∷ Put 0 32 ∷ Put 0 115 ∷ Put 0 111 ∷ Put 0 109 ∷ Put 0 101 ∷ Put 0
     32 ∷ Put 0 57 ∷ Put 0 55 ∷ Put 0 10 ∷ []
-unfolding digits encode
+unfolding digits encode chars
 script_72_effects_1 = effects_so _ _
 
 script_72_ending_1 : ending_of script_72 (known 1 (44 ∷ 10 ∷ 98 ∷ 97 ∷ []) AtEnd nothing_seen) ≡ Done Value.Unit
-unfolding digits encode
+unfolding digits encode chars
 script_72_ending_1 = ending_so _ _
 
 script_72_effects_2 : effects_of script_72 (known 1 (44 ∷ 10 ∷ 98 ∷ []) MayGoOn nothing_seen) ≡ Put 0 61 ∷ Put 0 32 ∷ Put 0 40 ∷ Put 0 91 ∷ Put 0 93 ∷
     Put 0 44 ∷ Put 0 32 ∷ Put 0 115 ∷ Put 0 111 ∷ Put 0 109 ∷ Put 0 101 ∷ Put 0 32 ∷ Put 0 34 ∷ Put 0 57 ∷ Put 0 53 ∷ Put 0 92 ∷ Put 0 120 ∷ Put 0 55
     ∷ Put 0 102 ∷ Put 0 34 ∷ Put 0 41 ∷ Put 0 10 ∷ Open 1 ∷ []
-unfolding digits encode
+unfolding digits encode chars
 script_72_effects_2 = effects_so _ _
 
 script_72_ending_2 : ending_of script_72 (known 1 (44 ∷ 10 ∷ 98 ∷ []) MayGoOn nothing_seen) ≡ Halts (More (Reading 1))
-unfolding digits encode
+unfolding digits encode chars
 script_72_ending_2 = ending_so _ _
 
 -- run (sourceFile "missing" | takeWhileE is ",") | { (utf8Lenient | split "\r" 3) } | (unlines | repeatE 1) | zipSink((repeatE 0 |& lengthE), (lines 2 |+ length));
@@ -404,19 +405,19 @@ script_73 = run_statement (piped (piped (source_file_word (codes "missing") ∷ 
 script_73_effects_1 : effects_of script_73 (known 1 [] AtEnd nothing_seen) ≡ Open 1 ∷ Close 1 ∷ Put 0 61 ∷ Put 0 32 ∷ Put 0 40 ∷ Put 0 40 ∷ Put 0 40 ∷
     Put 0 41 ∷ Put 0 44 ∷ Put 0 32 ∷ Put 0 48 ∷ Put 0 41 ∷ Put 0 44 ∷ Put 0 32 ∷ Put 0 40 ∷ Put 0 48 ∷ Put 0 44 ∷ Put 0 32 ∷ Put 0 91 ∷ Put 0 93 ∷ Put
     0 41 ∷ Put 0 41 ∷ Put 0 10 ∷ []
-unfolding digits encode
+unfolding digits encode chars
 script_73_effects_1 = effects_so _ _
 
 script_73_ending_1 : ending_of script_73 (known 1 [] AtEnd nothing_seen) ≡ Done Value.Unit
-unfolding digits encode
+unfolding digits encode chars
 script_73_ending_1 = ending_so _ _
 
 script_73_effects_2 : effects_of script_73 (known 1 [] MayGoOn nothing_seen) ≡ Open 1 ∷ []
-unfolding digits encode
+unfolding digits encode chars
 script_73_effects_2 = effects_so _ _
 
 script_73_ending_2 : ending_of script_73 (known 1 [] MayGoOn nothing_seen) ≡ Halts (More (Reading 1))
-unfolding digits encode
+unfolding digits encode chars
 script_73_ending_2 = ending_so _ _
 
 -- run (sourceFile "c" | filterE lower) | sinkFile "x1";
@@ -432,19 +433,19 @@ script_74 = run_statement (piped (piped (source_file_word (codes "c") ∷ filter
 script_74_effects_1 : effects_of script_74 (known 1 [] AtEnd (known 3 [] AtEnd (known 4 [] AtEnd nothing_seen))) ≡ Open 2 ∷ Open 1 ∷ Close 1 ∷ Close 2
     ∷ Open 3 ∷ Close 3 ∷ Open 4 ∷ Close 4 ∷ Put 0 61 ∷ Put 0 32 ∷ Put 0 110 ∷ Put 0 111 ∷ Put 0 110 ∷ Put 0 101 ∷ Put 0 10 ∷ Put 0 61 ∷ Put 0 32 ∷ Put
     0 48 ∷ Put 0 10 ∷ []
-unfolding digits encode
+unfolding digits encode chars
 script_74_effects_1 = effects_so _ _
 
 script_74_ending_1 : ending_of script_74 (known 1 [] AtEnd (known 3 [] AtEnd (known 4 [] AtEnd nothing_seen))) ≡ Done Value.Unit
-unfolding digits encode
+unfolding digits encode chars
 script_74_ending_1 = ending_so _ _
 
 script_74_effects_2 : effects_of script_74 (known 1 [] MayGoOn (known 3 [] MayGoOn (known 4 [] MayGoOn nothing_seen))) ≡ Open 2 ∷ Open 1 ∷ []
-unfolding digits encode
+unfolding digits encode chars
 script_74_effects_2 = effects_so _ _
 
 script_74_ending_2 : ending_of script_74 (known 1 [] MayGoOn (known 3 [] MayGoOn (known 4 [] MayGoOn nothing_seen))) ≡ Halts (More (Reading 1))
-unfolding digits encode
+unfolding digits encode chars
 script_74_ending_2 = ending_so _ _
 
 -- run stdin | lineE { { collectE 50; anyE not upper } };
@@ -453,17 +454,17 @@ script_77 = run_statement (piped (stdin_word ∷ line_e_form (sequence_form (col
 
 script_77_effects_1 : effects_of script_77 (known 1 (45 ∷ 10 ∷ []) AtEnd nothing_seen) ≡ Put 0 61 ∷ Put 0 32 ∷ Put 0 102 ∷ Put 0 97 ∷ Put 0 108 ∷ Put
     0 115 ∷ Put 0 101 ∷ Put 0 10 ∷ []
-unfolding digits encode
+unfolding digits encode chars
 script_77_effects_1 = effects_so _ _
 
 script_77_ending_1 : ending_of script_77 (known 1 (45 ∷ 10 ∷ []) AtEnd nothing_seen) ≡ Done Value.Unit
-unfolding digits encode
+unfolding digits encode chars
 script_77_ending_1 = ending_so _ _
 
 script_77_effects_2 : effects_of script_77 (known 1 (codes "-") Broken nothing_seen) ≡ []
-unfolding digits encode
+unfolding digits encode chars
 script_77_effects_2 = effects_so _ _
 
 script_77_ending_2 : ending_of script_77 (known 1 (codes "-") Broken nothing_seen) ≡ Halts (Stop (ReadBad 1))
-unfolding digits encode
+unfolding digits encode chars
 script_77_ending_2 = ending_so _ _

@@ -2,6 +2,7 @@
 use Rattle.std.specs.Prelude.{List, [], ◌∷◌, ◌≡◌, codes}
 use Rattle.std.specs.Fmt.{digits}
 use lib.Utf8.{encode}
+use Rattle.std.specs.Str.{chars}
 use Rattle.cd_meaning.specs.Stream.{Value, Reading, More, Stop, bad_hex, ReadBad, Done, Halts, Open, Put, Close}
 use Rattle.cd_meaning.specs.RunShapes.{AtEnd, MayGoOn, Broken}
 use Rattle.cd_meaning.specs.Rows.Trees.{Sentence}
@@ -16,19 +17,19 @@ script_79 = run_statement (piped (source_file_word (codes "a") ∷ piped (hex_en
 script_79_effects_1 : effects_of script_79 (known 1 (10 ∷ 195 ∷ 192 ∷ 97 ∷ []) AtEnd nothing_seen) ≡ Open 1 ∷ Put 2 48 ∷ Put 2 110 ∷ Put 2 112 ∷ Put 2
     51 ∷ Put 2 112 ∷ Put 2 48 ∷ Put 2 54 ∷ Put 2 49 ∷ Close 1 ∷ Put 0 61 ∷ Put 0 32 ∷ Put 0 40 ∷ Put 0 52 ∷ Put 0 56 ∷ Put 0 44 ∷ Put 0 32 ∷ Put 0 40
     ∷ Put 0 41 ∷ Put 0 41 ∷ Put 0 10 ∷ []
-unfolding digits encode
+unfolding digits encode chars
 script_79_effects_1 = effects_so _ _
 
 script_79_ending_1 : ending_of script_79 (known 1 (10 ∷ 195 ∷ 192 ∷ 97 ∷ []) AtEnd nothing_seen) ≡ Done Value.Unit
-unfolding digits encode
+unfolding digits encode chars
 script_79_ending_1 = ending_so _ _
 
 script_79_effects_2 : effects_of script_79 (known 1 (10 ∷ 195 ∷ []) MayGoOn nothing_seen) ≡ Open 1 ∷ Put 2 48 ∷ Put 2 110 ∷ Put 2 112 ∷ Put 2 51 ∷ []
-unfolding digits encode
+unfolding digits encode chars
 script_79_effects_2 = effects_so _ _
 
 script_79_ending_2 : ending_of script_79 (known 1 (10 ∷ 195 ∷ []) MayGoOn nothing_seen) ≡ Halts (More (Reading 1))
-unfolding digits encode
+unfolding digits encode chars
 script_79_ending_2 = ending_so _ _
 
 -- run texts ["bx\n\"", "\r"] | flat | (mapE rot13 |= repeatE 3) | zipSink(zipSink(collectE 1, allE alpha), collectE 50);
@@ -42,11 +43,11 @@ script_80_effects_1 : effects_of script_80 nothing_seen ≡ Put 0 61 ∷ Put 0 3
     125 ∷ Put 0 92 ∷ Put 0 117 ∷ Put 0 123 ∷ Put 0 97 ∷ Put 0 125 ∷ Put 0 92 ∷ Put 0 34 ∷ Put 0 92 ∷ Put 0 34 ∷ Put 0 92 ∷ Put 0 34 ∷ Put 0 92 ∷ Put 0
     117 ∷ Put 0 123 ∷ Put 0 100 ∷ Put 0 125 ∷ Put 0 92 ∷ Put 0 117 ∷ Put 0 123 ∷ Put 0 100 ∷ Put 0 125 ∷ Put 0 92 ∷ Put 0 117 ∷ Put 0 123 ∷ Put 0 100
     ∷ Put 0 125 ∷ Put 0 34 ∷ Put 0 41 ∷ Put 0 10 ∷ []
-unfolding digits encode
+unfolding digits encode chars
 script_80_effects_1 = effects_so _ _
 
 script_80_ending_1 : ending_of script_80 nothing_seen ≡ Done Value.Unit
-unfolding digits encode
+unfolding digits encode chars
 script_80_ending_1 = ending_so _ _
 
 -- run sourceFile "d" | { hexDecode; (mapE add 2 |= hexEncode) } | sinkFile "x1";
@@ -55,19 +56,19 @@ script_81 = run_statement (piped (source_file_word (codes "d") ∷ sequence_form
     []) ∷ sink_file_word (codes "x1") ∷ [])) ∷ []
 
 script_81_effects_1 : effects_of script_81 (known 1 (98 ∷ 10 ∷ 98 ∷ 97 ∷ []) AtEnd nothing_seen) ≡ Open 2 ∷ Open 1 ∷ []
-unfolding digits encode
+unfolding digits encode chars
 script_81_effects_1 = effects_so _ _
 
 script_81_ending_1 : ending_of script_81 (known 1 (98 ∷ 10 ∷ 98 ∷ 97 ∷ []) AtEnd nothing_seen) ≡ Halts (Stop (bad_hex 0))
-unfolding digits encode
+unfolding digits encode chars
 script_81_ending_1 = ending_so _ _
 
 script_81_effects_2 : effects_of script_81 (known 1 [] MayGoOn nothing_seen) ≡ Open 2 ∷ Open 1 ∷ []
-unfolding digits encode
+unfolding digits encode chars
 script_81_effects_2 = effects_so _ _
 
 script_81_ending_2 : ending_of script_81 (known 1 [] MayGoOn nothing_seen) ≡ Halts (More (Reading 1))
-unfolding digits encode
+unfolding digits encode chars
 script_81_ending_2 = ending_so _ _
 
 -- run bytes "😀" | hexEncode | { split "a" 80; exact 4 } | intersperse "," | last;
@@ -77,11 +78,11 @@ script_84 = run_statement (piped (bytes_word (240 ∷ 159 ∷ 152 ∷ 128 ∷ []
 
 script_84_effects_1 : effects_of script_84 nothing_seen ≡ Put 0 61 ∷ Put 0 32 ∷ Put 0 115 ∷ Put 0 111 ∷ Put 0 109 ∷ Put 0 101 ∷ Put 0 32 ∷ Put 0 34 ∷
     Put 0 102 ∷ Put 0 48 ∷ Put 0 57 ∷ Put 0 102 ∷ Put 0 57 ∷ Put 0 56 ∷ Put 0 56 ∷ Put 0 48 ∷ Put 0 34 ∷ Put 0 10 ∷ []
-unfolding digits encode
+unfolding digits encode chars
 script_84_effects_1 = effects_so _ _
 
 script_84_ending_1 : ending_of script_84 nothing_seen ≡ Done Value.Unit
-unfolding digits encode
+unfolding digits encode chars
 script_84_ending_1 = ending_so _ _
 
 -- run bytes "😀" | lines 4 | take 4 | exactly 4 { zipConduit(flat, flat) } | { sumE; dropWhileE space };
@@ -90,11 +91,11 @@ script_85 = run_statement (piped (bytes_word (240 ∷ 159 ∷ 152 ∷ 128 ∷ []
     flat_word) ∷ sequence_form (sum_e ∷ drop_while_e space ∷ []) ∷ [])) ∷ []
 
 script_85_effects_1 : effects_of script_85 nothing_seen ≡ []
-unfolding digits encode
+unfolding digits encode chars
 script_85_effects_1 = effects_so _ _
 
 script_85_ending_1 : ending_of script_85 nothing_seen ≡ Done Value.Unit
-unfolding digits encode
+unfolding digits encode chars
 script_85_ending_1 = ending_so _ _
 
 -- let s0 = seal (text "ab" | utf8Encode);
@@ -107,11 +108,11 @@ script_87 = let_statement (codes "s0") (piped (text_word (codes "ab") ∷ utf8_e
 
 script_87_effects_1 : effects_of script_87 nothing_seen ≡ Put 0 61 ∷ Put 0 32 ∷ Put 0 50 ∷ Put 0 10 ∷ Put 0 61 ∷ Put 0 32 ∷ Put 0 115 ∷ Put 0 111 ∷
     Put 0 109 ∷ Put 0 101 ∷ Put 0 32 ∷ Put 0 56 ∷ Put 0 57 ∷ Put 0 10 ∷ []
-unfolding digits encode
+unfolding digits encode chars
 script_87_effects_1 = effects_so _ _
 
 script_87_ending_1 : ending_of script_87 nothing_seen ≡ Done Value.Unit
-unfolding digits encode
+unfolding digits encode chars
 script_87_ending_1 = ending_so _ _
 
 -- run sourceFile "c" | (split "1" 3 | sinkNull);
@@ -123,22 +124,22 @@ script_91 = run_statement (piped (source_file_word (codes "c") ∷ piped (split_
 
 script_91_effects_1 : effects_of script_91 (known 1 (0 ∷ 0 ∷ 0 ∷ 0 ∷ 0 ∷ 0 ∷ 0 ∷ 3 ∷ 97 ∷ 97 ∷ 97 ∷ 0 ∷ 0 ∷ 0 ∷ 1 ∷ 0 ∷ []) AtEnd (known 2 (codes
     "1aaa") AtEnd nothing_seen)) ≡ Open 1 ∷ Close 1 ∷ Open 2 ∷ Close 2 ∷ []
-unfolding digits encode
+unfolding digits encode chars
 script_91_effects_1 = effects_so _ _
 
 script_91_ending_1 : ending_of script_91 (known 1 (0 ∷ 0 ∷ 0 ∷ 0 ∷ 0 ∷ 0 ∷ 0 ∷ 3 ∷ 97 ∷ 97 ∷ 97 ∷ 0 ∷ 0 ∷ 0 ∷ 1 ∷ 0 ∷ []) AtEnd (known 2 (codes
     "1aaa") AtEnd nothing_seen)) ≡ Done Value.Unit
-unfolding digits encode
+unfolding digits encode chars
 script_91_ending_1 = ending_so _ _
 
 script_91_effects_2 : effects_of script_91 (known 1 (0 ∷ 0 ∷ 0 ∷ 0 ∷ 0 ∷ 0 ∷ 0 ∷ 3 ∷ 97 ∷ 97 ∷ 97 ∷ 0 ∷ 0 ∷ 0 ∷ 1 ∷ []) Broken (known 2 (codes "1a")
     Broken nothing_seen)) ≡ Open 1 ∷ []
-unfolding digits encode
+unfolding digits encode chars
 script_91_effects_2 = effects_so _ _
 
 script_91_ending_2 : ending_of script_91 (known 1 (0 ∷ 0 ∷ 0 ∷ 0 ∷ 0 ∷ 0 ∷ 0 ∷ 3 ∷ 97 ∷ 97 ∷ 97 ∷ 0 ∷ 0 ∷ 0 ∷ 1 ∷ []) Broken (known 2 (codes "1a")
     Broken nothing_seen)) ≡ Halts (Stop (ReadBad 1))
-unfolding digits encode
+unfolding digits encode chars
 script_91_ending_2 = ending_so _ _
 
 -- run { stdin; mark "m1" { sourceFile "a" } } | (mapE rot13 |= { repeatE 1; takeE 7 }) | (takeWhileE space | (mapE rot13 |= split "\n" 1)) | peek;
@@ -151,23 +152,23 @@ script_92 = run_statement (piped (sequence_form (stdin_word ∷ mark_form (codes
 script_92_effects_1 : effects_of script_92 (known 1 (0 ∷ 0 ∷ 0 ∷ 3 ∷ 98 ∷ 0 ∷ 97 ∷ 0 ∷ 0 ∷ 0 ∷ 0 ∷ 0 ∷ 0 ∷ 0 ∷ 0 ∷ []) AtEnd (known 3 (0 ∷ 0 ∷ 0 ∷ 1 ∷
     98 ∷ 0 ∷ 0 ∷ 0 ∷ 1 ∷ 0 ∷ 0 ∷ 0 ∷ 0 ∷ 1 ∷ 98 ∷ []) AtEnd nothing_seen)) ≡ Put 0 61 ∷ Put 0 32 ∷ Put 0 110 ∷ Put 0 111 ∷ Put 0 110 ∷ Put 0 101 ∷ Put
     0 10 ∷ Put 0 61 ∷ Put 0 32 ∷ Put 0 115 ∷ Put 0 111 ∷ Put 0 109 ∷ Put 0 101 ∷ Put 0 32 ∷ Put 0 49 ∷ Put 0 48 ∷ Put 0 10 ∷ []
-unfolding digits encode
+unfolding digits encode chars
 script_92_effects_1 = effects_so _ _
 
 script_92_ending_1 : ending_of script_92 (known 1 (0 ∷ 0 ∷ 0 ∷ 3 ∷ 98 ∷ 0 ∷ 97 ∷ 0 ∷ 0 ∷ 0 ∷ 0 ∷ 0 ∷ 0 ∷ 0 ∷ 0 ∷ []) AtEnd (known 3 (0 ∷ 0 ∷ 0 ∷ 1 ∷
     98 ∷ 0 ∷ 0 ∷ 0 ∷ 1 ∷ 0 ∷ 0 ∷ 0 ∷ 0 ∷ 1 ∷ 98 ∷ []) AtEnd nothing_seen)) ≡ Done Value.Unit
-unfolding digits encode
+unfolding digits encode chars
 script_92_ending_1 = ending_so _ _
 
 script_92_effects_2 : effects_of script_92 (known 1 (0 ∷ 0 ∷ 0 ∷ 3 ∷ 98 ∷ 0 ∷ 97 ∷ 0 ∷ 0 ∷ 0 ∷ 0 ∷ 0 ∷ 0 ∷ 0 ∷ []) MayGoOn (known 3 (0 ∷ 0 ∷ 0 ∷ 1 ∷
     98 ∷ []) Broken nothing_seen)) ≡ Put 0 61 ∷ Put 0 32 ∷ Put 0 110 ∷ Put 0 111 ∷ Put 0 110 ∷ Put 0 101 ∷ Put 0 10 ∷ Put 0 61 ∷ Put 0 32 ∷ Put 0 115
     ∷ Put 0 111 ∷ Put 0 109 ∷ Put 0 101 ∷ Put 0 32 ∷ Put 0 49 ∷ Put 0 48 ∷ Put 0 10 ∷ []
-unfolding digits encode
+unfolding digits encode chars
 script_92_effects_2 = effects_so _ _
 
 script_92_ending_2 : ending_of script_92 (known 1 (0 ∷ 0 ∷ 0 ∷ 3 ∷ 98 ∷ 0 ∷ 97 ∷ 0 ∷ 0 ∷ 0 ∷ 0 ∷ 0 ∷ 0 ∷ 0 ∷ []) MayGoOn (known 3 (0 ∷ 0 ∷ 0 ∷ 1 ∷ 98
     ∷ []) Broken nothing_seen)) ≡ Done Value.Unit
-unfolding digits encode
+unfolding digits encode chars
 script_92_ending_2 = ending_so _ _
 
 -- run zipSource((sourceFile "b" | split "1" 2), (sourceFile "a" | exact 1), "\\") | (flat | split "," 80) | exactly 3 { map suffix "\u{7f}aa" } | dropWhile begins ",";
@@ -178,19 +179,19 @@ script_94 = run_statement (piped (zip_source_form (92 ∷ []) (piped (source_fil
 
 script_94_effects_1 : effects_of script_94 (known 1 (codes "6610") AtEnd (known 2 (10 ∷ 10 ∷ 13 ∷ 98 ∷ []) AtEnd nothing_seen)) ≡ Open 1 ∷ Open 2 ∷
     Close 1 ∷ []
-unfolding digits encode
+unfolding digits encode chars
 script_94_effects_1 = effects_so _ _
 
 script_94_ending_1 : ending_of script_94 (known 1 (codes "6610") AtEnd (known 2 (10 ∷ 10 ∷ 13 ∷ 98 ∷ []) AtEnd nothing_seen)) ≡ Done Value.Unit
-unfolding digits encode
+unfolding digits encode chars
 script_94_ending_1 = ending_so _ _
 
 script_94_effects_2 : effects_of script_94 (known 1 [] MayGoOn (known 2 (10 ∷ 10 ∷ 13 ∷ []) MayGoOn nothing_seen)) ≡ Open 1 ∷ []
-unfolding digits encode
+unfolding digits encode chars
 script_94_effects_2 = effects_so _ _
 
 script_94_ending_2 : ending_of script_94 (known 1 [] MayGoOn (known 2 (10 ∷ 10 ∷ 13 ∷ []) MayGoOn nothing_seen)) ≡ Halts (More (Reading 1))
-unfolding digits encode
+unfolding digits encode chars
 script_94_ending_2 = ending_so _ _
 
 -- run sourceFile "b" | (takeWhileE hexdigit | exact 4) | (unlines | zipSink(dropWhileE newline, lastE));
@@ -201,21 +202,21 @@ script_97 = run_statement (piped (source_file_word (codes "b") ∷ piped (take_w
 script_97_effects_1 : effects_of script_97 (known 1 (97 ∷ 10 ∷ 97 ∷ 120 ∷ 97 ∷ 32 ∷ 10 ∷ 49 ∷ 45 ∷ 99 ∷ 32 ∷ 97 ∷ 45 ∷ 99 ∷ 98 ∷ 97 ∷ 97 ∷ 120 ∷ 44 ∷
     10 ∷ []) AtEnd nothing_seen) ≡ Open 1 ∷ Put 0 61 ∷ Put 0 32 ∷ Put 0 40 ∷ Put 0 40 ∷ Put 0 41 ∷ Put 0 44 ∷ Put 0 32 ∷ Put 0 110 ∷ Put 0 111 ∷ Put 0
     110 ∷ Put 0 101 ∷ Put 0 41 ∷ Put 0 10 ∷ []
-unfolding digits encode
+unfolding digits encode chars
 script_97_effects_1 = effects_so _ _
 
 script_97_ending_1 : ending_of script_97 (known 1 (97 ∷ 10 ∷ 97 ∷ 120 ∷ 97 ∷ 32 ∷ 10 ∷ 49 ∷ 45 ∷ 99 ∷ 32 ∷ 97 ∷ 45 ∷ 99 ∷ 98 ∷ 97 ∷ 97 ∷ 120 ∷ 44 ∷ 10
     ∷ []) AtEnd nothing_seen) ≡ Done Value.Unit
-unfolding digits encode
+unfolding digits encode chars
 script_97_ending_1 = ending_so _ _
 
 script_97_effects_2 : effects_of script_97 (known 1 (97 ∷ 10 ∷ 97 ∷ 120 ∷ 97 ∷ 32 ∷ 10 ∷ 49 ∷ 45 ∷ 99 ∷ []) Broken nothing_seen) ≡ Open 1 ∷ Put 0 61 ∷
     Put 0 32 ∷ Put 0 40 ∷ Put 0 40 ∷ Put 0 41 ∷ Put 0 44 ∷ Put 0 32 ∷ Put 0 110 ∷ Put 0 111 ∷ Put 0 110 ∷ Put 0 101 ∷ Put 0 41 ∷ Put 0 10 ∷ []
-unfolding digits encode
+unfolding digits encode chars
 script_97_effects_2 = effects_so _ _
 
 script_97_ending_2 : ending_of script_97 (known 1 (97 ∷ 10 ∷ 97 ∷ 120 ∷ 97 ∷ 32 ∷ 10 ∷ 49 ∷ 45 ∷ 99 ∷ []) Broken nothing_seen) ≡ Done Value.Unit
-unfolding digits encode
+unfolding digits encode chars
 script_97_ending_2 = ending_so _ _
 
 -- run range 0 0 | zipSink(exactly 7 { dropWhile ends "ab" }, length);
@@ -230,21 +231,21 @@ script_98 = run_statement (piped (range_word 0 0 ∷ zip_sink_form (exactly_form
 script_98_effects_1 : effects_of script_98 (known 2 (254 ∷ 97 ∷ 162 ∷ []) AtEnd nothing_seen) ≡ Put 0 61 ∷ Put 0 32 ∷ Put 0 40 ∷ Put 0 40 ∷ Put 0 41 ∷
     Put 0 44 ∷ Put 0 32 ∷ Put 0 49 ∷ Put 0 41 ∷ Put 0 10 ∷ Open 1 ∷ Put 0 61 ∷ Put 0 32 ∷ Put 0 102 ∷ Put 0 97 ∷ Put 0 108 ∷ Put 0 115 ∷ Put 0 101 ∷
     Put 0 10 ∷ Open 2 ∷ []
-unfolding digits encode
+unfolding digits encode chars
 script_98_effects_1 = effects_so _ _
 
 script_98_ending_1 : ending_of script_98 (known 2 (254 ∷ 97 ∷ 162 ∷ []) AtEnd nothing_seen) ≡ Done Value.Unit
-unfolding digits encode
+unfolding digits encode chars
 script_98_ending_1 = ending_so _ _
 
 script_98_effects_2 : effects_of script_98 (known 2 (254 ∷ 97 ∷ 162 ∷ []) MayGoOn nothing_seen) ≡ Put 0 61 ∷ Put 0 32 ∷ Put 0 40 ∷ Put 0 40 ∷ Put 0 41
     ∷ Put 0 44 ∷ Put 0 32 ∷ Put 0 49 ∷ Put 0 41 ∷ Put 0 10 ∷ Open 1 ∷ Put 0 61 ∷ Put 0 32 ∷ Put 0 102 ∷ Put 0 97 ∷ Put 0 108 ∷ Put 0 115 ∷ Put 0 101 ∷
     Put 0 10 ∷ Open 2 ∷ []
-unfolding digits encode
+unfolding digits encode chars
 script_98_effects_2 = effects_so _ _
 
 script_98_ending_2 : ending_of script_98 (known 2 (254 ∷ 97 ∷ 162 ∷ []) MayGoOn nothing_seen) ≡ Done Value.Unit
-unfolding digits encode
+unfolding digits encode chars
 script_98_ending_2 = ending_so _ _
 
 -- run { sourceFile "c"; sourceFile "c" } | anyE hexdigit;
@@ -262,24 +263,24 @@ script_102_effects_1 : effects_of script_102 (known 1 (195 ∷ 207 ∷ 254 ∷ 1
     nothing_seen))) ≡ Open 1 ∷ Put 0 61 ∷ Put 0 32 ∷ Put 0 116 ∷ Put 0 114 ∷ Put 0 117 ∷ Put 0 101 ∷ Put 0 10 ∷ Open 3 ∷ Put 0 61 ∷ Put 0 32 ∷ Put 0
     102 ∷ Put 0 97 ∷ Put 0 108 ∷ Put 0 115 ∷ Put 0 101 ∷ Put 0 10 ∷ Put 0 61 ∷ Put 0 32 ∷ Put 0 91 ∷ Put 0 34 ∷ Put 0 44 ∷ Put 0 92 ∷ Put 0 34 ∷ Put 0
     92 ∷ Put 0 120 ∷ Put 0 48 ∷ Put 0 100 ∷ Put 0 34 ∷ Put 0 44 ∷ Put 0 32 ∷ Put 0 34 ∷ Put 0 97 ∷ Put 0 97 ∷ Put 0 34 ∷ Put 0 93 ∷ Put 0 10 ∷ []
-unfolding digits encode
+unfolding digits encode chars
 script_102_effects_1 = effects_so _ _
 
 script_102_ending_1 : ending_of script_102 (known 1 (195 ∷ 207 ∷ 254 ∷ 198 ∷ 75 ∷ 44 ∷ 130 ∷ 222 ∷ 223 ∷ 133 ∷ 193 ∷ 154 ∷ 46 ∷ 168 ∷ 3 ∷ 93 ∷ 182 ∷
     57 ∷ 177 ∷ 219 ∷ []) AtEnd (known 2 (195 ∷ 207 ∷ 254 ∷ 198 ∷ 75 ∷ 44 ∷ 130 ∷ 222 ∷ 223 ∷ 133 ∷ 193 ∷ 154 ∷ 46 ∷ 168 ∷ 3 ∷ 93 ∷ 182 ∷ 57 ∷ 177 ∷
     219 ∷ []) AtEnd (known 3 (98 ∷ 10 ∷ 97 ∷ 10 ∷ 10 ∷ 97 ∷ 98 ∷ 10 ∷ 97 ∷ 97 ∷ 10 ∷ 10 ∷ 10 ∷ 10 ∷ 98 ∷ 10 ∷ 97 ∷ 10 ∷ 97 ∷ 97 ∷ []) AtEnd
     nothing_seen))) ≡ Done Value.Unit
-unfolding digits encode
+unfolding digits encode chars
 script_102_ending_1 = ending_so _ _
 
 script_102_effects_2 : effects_of script_102 (known 1 (195 ∷ 207 ∷ 254 ∷ 198 ∷ 75 ∷ 44 ∷ 130 ∷ 222 ∷ 223 ∷ 133 ∷ 193 ∷ 154 ∷ []) MayGoOn (known 2 (195
     ∷ 207 ∷ 254 ∷ 198 ∷ 75 ∷ []) MayGoOn (known 3 (98 ∷ 10 ∷ 97 ∷ 10 ∷ 10 ∷ 97 ∷ 98 ∷ 10 ∷ []) MayGoOn nothing_seen))) ≡ Open 1 ∷ []
-unfolding digits encode
+unfolding digits encode chars
 script_102_effects_2 = effects_so _ _
 
 script_102_ending_2 : ending_of script_102 (known 1 (195 ∷ 207 ∷ 254 ∷ 198 ∷ 75 ∷ 44 ∷ 130 ∷ 222 ∷ 223 ∷ 133 ∷ 193 ∷ 154 ∷ []) MayGoOn (known 2 (195 ∷
     207 ∷ 254 ∷ 198 ∷ 75 ∷ []) MayGoOn (known 3 (98 ∷ 10 ∷ 97 ∷ 10 ∷ 10 ∷ 97 ∷ 98 ∷ 10 ∷ []) MayGoOn nothing_seen))) ≡ Halts (More (Reading 1))
-unfolding digits encode
+unfolding digits encode chars
 script_102_ending_2 = ending_so _ _
 
 -- run mark "m1" { (stdin | hexDecode) } | filterE upper | (lines 8 | unlines) | ((takeE 3 | takeWhileE newline) | (takeE 3 |? collectE 50));
@@ -288,19 +289,19 @@ script_104 = run_statement (piped (mark_form (codes "m1") (piped (stdin_word ∷
     unlines_word ∷ []) ∷ piped (piped (take_e 3 ∷ take_while_e newline ∷ []) ∷ piped_asked (take_e 3 ∷ collect_e 50 ∷ []) ∷ []) ∷ [])) ∷ []
 
 script_104_effects_1 : effects_of script_104 (known 2 (codes "514") AtEnd nothing_seen) ≡ Open 1 ∷ []
-unfolding digits encode
+unfolding digits encode chars
 script_104_effects_1 = effects_so _ _
 
 script_104_ending_1 : ending_of script_104 (known 2 (codes "514") AtEnd nothing_seen) ≡ Halts (Stop (bad_hex 2))
-unfolding digits encode
+unfolding digits encode chars
 script_104_ending_1 = ending_so _ _
 
 script_104_effects_2 : effects_of script_104 (known 2 (codes "5") MayGoOn nothing_seen) ≡ Open 1 ∷ []
-unfolding digits encode
+unfolding digits encode chars
 script_104_effects_2 = effects_so _ _
 
 script_104_ending_2 : ending_of script_104 (known 2 (codes "5") MayGoOn nothing_seen) ≡ Halts (More (Reading 2))
-unfolding digits encode
+unfolding digits encode chars
 script_104_ending_2 = ending_so _ _
 
 -- hold k0 = mark "m1";
@@ -318,22 +319,22 @@ script_105 = hold_statement (codes "k0") (codes "m1") ∷ let_statement (codes "
 script_105_effects_1 : effects_of script_105 (known 2 (45 ∷ 97 ∷ 120 ∷ 99 ∷ 45 ∷ 98 ∷ 44 ∷ 32 ∷ 32 ∷ 97 ∷ 120 ∷ 98 ∷ 98 ∷ 32 ∷ 45 ∷ 44 ∷ 98 ∷ 32 ∷ 97
     ∷ 49 ∷ []) AtEnd nothing_seen) ≡ Open 1 ∷ Open 3 ∷ Put 0 61 ∷ Put 0 32 ∷ Put 0 91 ∷ Put 0 93 ∷ Put 0 10 ∷ Open 2 ∷ Close 2 ∷ Put 0 61 ∷ Put 0 32 ∷
     Put 0 48 ∷ Put 0 10 ∷ []
-unfolding digits encode
+unfolding digits encode chars
 script_105_effects_1 = effects_so _ _
 
 script_105_ending_1 : ending_of script_105 (known 2 (45 ∷ 97 ∷ 120 ∷ 99 ∷ 45 ∷ 98 ∷ 44 ∷ 32 ∷ 32 ∷ 97 ∷ 120 ∷ 98 ∷ 98 ∷ 32 ∷ 45 ∷ 44 ∷ 98 ∷ 32 ∷ 97 ∷
     49 ∷ []) AtEnd nothing_seen) ≡ Done Value.Unit
-unfolding digits encode
+unfolding digits encode chars
 script_105_ending_1 = ending_so _ _
 
 script_105_effects_2 : effects_of script_105 (known 2 (45 ∷ 97 ∷ 120 ∷ 99 ∷ 45 ∷ 98 ∷ 44 ∷ 32 ∷ 32 ∷ 97 ∷ 120 ∷ 98 ∷ 98 ∷ 32 ∷ 45 ∷ 44 ∷ 98 ∷ 32 ∷ [])
     Broken nothing_seen) ≡ Open 1 ∷ Open 3 ∷ Put 0 61 ∷ Put 0 32 ∷ Put 0 91 ∷ Put 0 93 ∷ Put 0 10 ∷ Open 2 ∷ []
-unfolding digits encode
+unfolding digits encode chars
 script_105_effects_2 = effects_so _ _
 
 script_105_ending_2 : ending_of script_105 (known 2 (45 ∷ 97 ∷ 120 ∷ 99 ∷ 45 ∷ 98 ∷ 44 ∷ 32 ∷ 32 ∷ 97 ∷ 120 ∷ 98 ∷ 98 ∷ 32 ∷ 45 ∷ 44 ∷ 98 ∷ 32 ∷ [])
     Broken nothing_seen) ≡ Halts (Stop (ReadBad 2))
-unfolding digits encode
+unfolding digits encode chars
 script_105_ending_2 = ending_so _ _
 
 -- run sourceFile "a" | (repeatE 1 | base64Encode) | hexEncode | ((base64Encode | lines 3) | (flat |? sinkFile "x1"));
@@ -350,21 +351,21 @@ script_109_effects_1 : effects_of script_109 (known 1 (98 ∷ 32 ∷ 97 ∷ 98 �
     90 ∷ Put 2 106 ∷ Put 2 82 ∷ Close 1 ∷ Put 2 105 ∷ Put 2 78 ∷ Put 2 71 ∷ Put 2 77 ∷ Put 2 48 ∷ Put 2 78 ∷ Put 2 122 ∷ Put 2 81 ∷ Put 2 53 ∷ Put 2
     77 ∷ Put 2 50 ∷ Put 2 81 ∷ Put 2 61 ∷ Close 2 ∷ Put 0 61 ∷ Put 0 32 ∷ Put 0 40 ∷ Put 0 115 ∷ Put 0 111 ∷ Put 0 109 ∷ Put 0 101 ∷ Put 0 32 ∷ Put 0
     40 ∷ Put 0 41 ∷ Put 0 44 ∷ Put 0 32 ∷ Put 0 40 ∷ Put 0 41 ∷ Put 0 41 ∷ Put 0 10 ∷ []
-unfolding digits encode
+unfolding digits encode chars
 script_109_effects_1 = effects_so _ _
 
 script_109_ending_1 : ending_of script_109 (known 1 (98 ∷ 32 ∷ 97 ∷ 98 ∷ 32 ∷ 98 ∷ 10 ∷ 98 ∷ 98 ∷ 120 ∷ 97 ∷ 97 ∷ 99 ∷ 120 ∷ 98 ∷ 97 ∷ 10 ∷ 10 ∷ 44 ∷
     98 ∷ []) AtEnd nothing_seen) ≡ Done Value.Unit
-unfolding digits encode
+unfolding digits encode chars
 script_109_ending_1 = ending_so _ _
 
 script_109_effects_2 : effects_of script_109 (known 1 (98 ∷ 32 ∷ 97 ∷ 98 ∷ 32 ∷ []) MayGoOn nothing_seen) ≡ Open 2 ∷ Open 1 ∷ Put 2 78 ∷ Put 2 84 ∷
     Put 2 107 ∷ Put 2 50 ∷ Put 2 79 ∷ Put 2 84 ∷ []
-unfolding digits encode
+unfolding digits encode chars
 script_109_effects_2 = effects_so _ _
 
 script_109_ending_2 : ending_of script_109 (known 1 (98 ∷ 32 ∷ 97 ∷ 98 ∷ 32 ∷ []) MayGoOn nothing_seen) ≡ Halts (More (Reading 1))
-unfolding digits encode
+unfolding digits encode chars
 script_109_ending_2 = ending_so _ _
 
 -- run mark "m1" { stdin } | ({ sumE; utf8 } | repeatE 1) | (passE | (exact 4 |? head));
@@ -377,19 +378,19 @@ script_112 = run_statement (piped (mark_form (codes "m1") stdin_word ∷ piped (
 script_112_effects_1 : effects_of script_112 (known 2 (codes "86189") AtEnd nothing_seen) ≡ Open 1 ∷ Close 1 ∷ Put 0 61 ∷ Put 0 32 ∷ Put 0 40 ∷ Put 0
     115 ∷ Put 0 111 ∷ Put 0 109 ∷ Put 0 101 ∷ Put 0 32 ∷ Put 0 40 ∷ Put 0 41 ∷ Put 0 44 ∷ Put 0 32 ∷ Put 0 110 ∷ Put 0 111 ∷ Put 0 110 ∷ Put 0 101 ∷
     Put 0 41 ∷ Put 0 10 ∷ []
-unfolding digits encode
+unfolding digits encode chars
 script_112_effects_1 = effects_so _ _
 
 script_112_ending_1 : ending_of script_112 (known 2 (codes "86189") AtEnd nothing_seen) ≡ Done Value.Unit
-unfolding digits encode
+unfolding digits encode chars
 script_112_ending_1 = ending_so _ _
 
 script_112_effects_2 : effects_of script_112 (known 2 (codes "861") MayGoOn nothing_seen) ≡ Open 1 ∷ []
-unfolding digits encode
+unfolding digits encode chars
 script_112_effects_2 = effects_so _ _
 
 script_112_ending_2 : ending_of script_112 (known 2 (codes "861") MayGoOn nothing_seen) ≡ Halts (More (Reading 2))
-unfolding digits encode
+unfolding digits encode chars
 script_112_ending_2 = ending_so _ _
 
 -- run range 0 0 | takeWhile not begins "ab" | tee((flat |< sinkNull)) | zipSink((unlines |? nullE), zipSink(peek, head));
@@ -401,11 +402,11 @@ script_120_effects_1 : effects_of script_120 nothing_seen ≡ Put 0 61 ∷ Put 0
     ∷ Put 0 44 ∷ Put 0 32 ∷ Put 0 102 ∷ Put 0 97 ∷ Put 0 108 ∷ Put 0 115 ∷ Put 0 101 ∷ Put 0 41 ∷ Put 0 44 ∷ Put 0 32 ∷ Put 0 40 ∷ Put 0 115 ∷ Put 0
     111 ∷ Put 0 109 ∷ Put 0 101 ∷ Put 0 32 ∷ Put 0 34 ∷ Put 0 48 ∷ Put 0 34 ∷ Put 0 44 ∷ Put 0 32 ∷ Put 0 115 ∷ Put 0 111 ∷ Put 0 109 ∷ Put 0 101 ∷
     Put 0 32 ∷ Put 0 34 ∷ Put 0 48 ∷ Put 0 34 ∷ Put 0 41 ∷ Put 0 41 ∷ Put 0 10 ∷ []
-unfolding digits encode
+unfolding digits encode chars
 script_120_effects_1 = effects_so _ _
 
 script_120_ending_1 : ending_of script_120 nothing_seen ≡ Done Value.Unit
-unfolding digits encode
+unfolding digits encode chars
 script_120_ending_1 = ending_so _ _
 
 -- run zipSource(sourceFile "missing" | lines 9, bytes "€" | lines 9, "") | tee((repeat 3 | drop 1000)) | { zipSink(dropWhile not ends "aa", head); exactly 1 { collect 9 } };
@@ -416,19 +417,19 @@ script_122 = run_statement (piped (zip_source_form [] (piped (source_file_word (
 
 script_122_effects_1 : effects_of script_122 (known 1 [] AtEnd nothing_seen) ≡ Open 1 ∷ Close 1 ∷ Put 0 61 ∷ Put 0 32 ∷ Put 0 91 ∷ Put 0 93 ∷ Put 0 10
     ∷ []
-unfolding digits encode
+unfolding digits encode chars
 script_122_effects_1 = effects_so _ _
 
 script_122_ending_1 : ending_of script_122 (known 1 [] AtEnd nothing_seen) ≡ Done Value.Unit
-unfolding digits encode
+unfolding digits encode chars
 script_122_ending_1 = ending_so _ _
 
 script_122_effects_2 : effects_of script_122 (known 1 [] Broken nothing_seen) ≡ Open 1 ∷ []
-unfolding digits encode
+unfolding digits encode chars
 script_122_effects_2 = effects_so _ _
 
 script_122_ending_2 : ending_of script_122 (known 1 [] Broken nothing_seen) ≡ Halts (Stop (ReadBad 1))
-unfolding digits encode
+unfolding digits encode chars
 script_122_ending_2 = ending_so _ _
 
 -- run blocks ["aa\n", "éa-", "x\n", "ab"] | tee((flat | stdout)) | unlines | (mapE xor 32 |= passE) | sinkFile "x5";
@@ -439,11 +440,11 @@ script_123 = run_statement (piped (blocks_word ((97 ∷ 97 ∷ 10 ∷ []) ∷ (1
 script_123_effects_1 : effects_of script_123 nothing_seen ≡ Open 2 ∷ Put 1 97 ∷ Put 1 97 ∷ Put 1 10 ∷ Put 2 65 ∷ Put 2 65 ∷ Put 2 42 ∷ Put 2 42 ∷ Put
     1 195 ∷ Put 1 169 ∷ Put 1 97 ∷ Put 1 45 ∷ Put 2 227 ∷ Put 2 137 ∷ Put 2 65 ∷ Put 2 13 ∷ Put 2 42 ∷ Put 1 120 ∷ Put 1 10 ∷ Put 2 88 ∷ Put 2 42 ∷
     Put 2 42 ∷ Put 1 97 ∷ Put 1 98 ∷ Put 2 65 ∷ Put 2 66 ∷ Put 2 42 ∷ Close 2 ∷ []
-unfolding digits encode
+unfolding digits encode chars
 script_123_effects_1 = effects_so _ _
 
 script_123_ending_1 : ending_of script_123 nothing_seen ≡ Done Value.Unit
-unfolding digits encode
+unfolding digits encode chars
 script_123_ending_1 = ending_so _ _
 
 -- run sourceFile "b" | ({ dropE 7; chunksOf 5; lines 5 } | (take 7 | flat)) | collectE 50;
@@ -460,22 +461,22 @@ script_125_effects_1 : effects_of script_125 (known 1 (98 ∷ 10 ∷ 97 ∷ 10 �
     ∷ Put 0 48 ∷ Put 0 97 ∷ Put 0 97 ∷ Put 0 92 ∷ Put 0 120 ∷ Put 0 48 ∷ Put 0 97 ∷ Put 0 97 ∷ Put 0 97 ∷ Put 0 92 ∷ Put 0 120 ∷ Put 0 48 ∷ Put 0 97 ∷
     Put 0 98 ∷ Put 0 92 ∷ Put 0 120 ∷ Put 0 48 ∷ Put 0 97 ∷ Put 0 92 ∷ Put 0 120 ∷ Put 0 48 ∷ Put 0 97 ∷ Put 0 98 ∷ Put 0 98 ∷ Put 0 34 ∷ Put 0 10 ∷
     Open 2 ∷ Close 2 ∷ []
-unfolding digits encode
+unfolding digits encode chars
 script_125_effects_1 = effects_so _ _
 
 script_125_ending_1 : ending_of script_125 (known 1 (98 ∷ 10 ∷ 97 ∷ 10 ∷ 10 ∷ 98 ∷ 97 ∷ 10 ∷ 98 ∷ 10 ∷ 97 ∷ 10 ∷ 97 ∷ 97 ∷ 10 ∷ 98 ∷ 10 ∷ 10 ∷ 98 ∷ 98
     ∷ []) AtEnd (known 2 (98 ∷ 10 ∷ 97 ∷ 10 ∷ 10 ∷ 98 ∷ 97 ∷ 10 ∷ 98 ∷ 10 ∷ 97 ∷ 10 ∷ 97 ∷ 97 ∷ 10 ∷ 98 ∷ 10 ∷ 10 ∷ 98 ∷ 98 ∷ []) AtEnd nothing_seen))
     ≡ Done Value.Unit
-unfolding digits encode
+unfolding digits encode chars
 script_125_ending_1 = ending_so _ _
 
 script_125_effects_2 : effects_of script_125 (known 1 (98 ∷ 10 ∷ 97 ∷ 10 ∷ 10 ∷ 98 ∷ 97 ∷ 10 ∷ 98 ∷ 10 ∷ 97 ∷ 10 ∷ 97 ∷ 97 ∷ 10 ∷ []) Broken (known 2
     (98 ∷ 10 ∷ 97 ∷ 10 ∷ 10 ∷ 98 ∷ 97 ∷ 10 ∷ 98 ∷ 10 ∷ 97 ∷ 10 ∷ 97 ∷ 97 ∷ 10 ∷ 98 ∷ 10 ∷ 10 ∷ 98 ∷ []) MayGoOn nothing_seen)) ≡ Open 1 ∷ []
-unfolding digits encode
+unfolding digits encode chars
 script_125_effects_2 = effects_so _ _
 
 script_125_ending_2 : ending_of script_125 (known 1 (98 ∷ 10 ∷ 97 ∷ 10 ∷ 10 ∷ 98 ∷ 97 ∷ 10 ∷ 98 ∷ 10 ∷ 97 ∷ 10 ∷ 97 ∷ 97 ∷ 10 ∷ []) Broken (known 2
     (98 ∷ 10 ∷ 97 ∷ 10 ∷ 10 ∷ 98 ∷ 97 ∷ 10 ∷ 98 ∷ 10 ∷ 97 ∷ 10 ∷ 97 ∷ 97 ∷ 10 ∷ 98 ∷ 10 ∷ 10 ∷ 98 ∷ []) MayGoOn nothing_seen)) ≡ Halts (Stop (ReadBad
     1))
-unfolding digits encode
+unfolding digits encode chars
 script_125_ending_2 = ending_so _ _

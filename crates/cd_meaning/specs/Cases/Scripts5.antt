@@ -2,6 +2,7 @@
 use Rattle.std.specs.Prelude.{List, [], ◌∷◌, ◌≡◌, codes}
 use Rattle.std.specs.Fmt.{digits}
 use lib.Utf8.{encode}
+use Rattle.std.specs.Str.{chars}
 use Rattle.cd_meaning.specs.Stream.{Value, Reading, More, Stop, bad_text, bad_hex, ReadBad, Done, Halts, Open, Put, Close}
 use Rattle.cd_meaning.specs.RunShapes.{AtEnd, MayGoOn, Broken}
 use Rattle.cd_meaning.specs.Rows.Trees.{Sentence}
@@ -22,19 +23,19 @@ script_141 = hold_statement (codes "k0") (codes "m1") ∷ release_statement (cod
 script_141_effects_1 : effects_of script_141 (known 2 (10 ∷ 10 ∷ []) AtEnd nothing_seen) ≡ Open 1 ∷ Close 1 ∷ Put 0 61 ∷ Put 0 32 ∷ Put 0 110 ∷ Put 0
     111 ∷ Put 0 110 ∷ Put 0 101 ∷ Put 0 10 ∷ Put 0 61 ∷ Put 0 32 ∷ Put 0 115 ∷ Put 0 111 ∷ Put 0 109 ∷ Put 0 101 ∷ Put 0 32 ∷ Put 0 34 ∷ Put 0 34 ∷
     Put 0 10 ∷ []
-unfolding digits encode
+unfolding digits encode chars
 script_141_effects_1 = effects_so _ _
 
 script_141_ending_1 : ending_of script_141 (known 2 (10 ∷ 10 ∷ []) AtEnd nothing_seen) ≡ Done Value.Unit
-unfolding digits encode
+unfolding digits encode chars
 script_141_ending_1 = ending_so _ _
 
 script_141_effects_2 : effects_of script_141 (known 2 [] MayGoOn nothing_seen) ≡ Open 1 ∷ Close 1 ∷ []
-unfolding digits encode
+unfolding digits encode chars
 script_141_effects_2 = effects_so _ _
 
 script_141_ending_2 : ending_of script_141 (known 2 [] MayGoOn nothing_seen) ≡ Halts (More (Reading 2))
-unfolding digits encode
+unfolding digits encode chars
 script_141_ending_2 = ending_so _ _
 
 -- run bytes "\"-x\n" | hexDecode | stdout;
@@ -46,19 +47,19 @@ script_148 = run_statement (piped (bytes_word (34 ∷ 45 ∷ 120 ∷ 10 ∷ []) 
     (range_word 0 0 ∷ piped_keep (map_word (suffix []) ∷ map_word reversed ∷ []) ∷ map_word reversed ∷ unlines_word ∷ stdout_word ∷ [])) ∷ []
 
 script_148_effects_1 : effects_of script_148 (known 3 (codes "e") AtEnd nothing_seen) ≡ []
-unfolding digits encode
+unfolding digits encode chars
 script_148_effects_1 = effects_so _ _
 
 script_148_ending_1 : ending_of script_148 (known 3 (codes "e") AtEnd nothing_seen) ≡ Halts (Stop (bad_hex 0))
-unfolding digits encode
+unfolding digits encode chars
 script_148_ending_1 = ending_so _ _
 
 script_148_effects_2 : effects_of script_148 (known 3 (codes "e") Broken nothing_seen) ≡ []
-unfolding digits encode
+unfolding digits encode chars
 script_148_effects_2 = effects_so _ _
 
 script_148_ending_2 : ending_of script_148 (known 3 (codes "e") Broken nothing_seen) ≡ Halts (Stop (bad_hex 0))
-unfolding digits encode
+unfolding digits encode chars
 script_148_ending_2 = ending_so _ _
 
 -- run sourceFile "a" | ((mapE add 32 |= base64Decode) | repeatE 3) | { exactlyE 4 { split "," 5 }; exact 1 } | mark "m1" { (intersperse "ab" |+ sinkNull) };
@@ -72,19 +73,19 @@ script_152 = run_statement (piped (source_file_word (codes "a") ∷ piped (piped
 script_152_effects_1 : effects_of script_152 (known 1 [] AtEnd (known 4 [] AtEnd nothing_seen)) ≡ Open 2 ∷ Open 1 ∷ Close 1 ∷ Close 2 ∷ Put 0 61 ∷ Put
     0 32 ∷ Put 0 40 ∷ Put 0 40 ∷ Put 0 41 ∷ Put 0 44 ∷ Put 0 32 ∷ Put 0 91 ∷ Put 0 93 ∷ Put 0 41 ∷ Put 0 10 ∷ Open 5 ∷ Open 3 ∷ Open 4 ∷ Close 4 ∷
     Close 3 ∷ Close 5 ∷ []
-unfolding digits encode
+unfolding digits encode chars
 script_152_effects_1 = effects_so _ _
 
 script_152_ending_1 : ending_of script_152 (known 1 [] AtEnd (known 4 [] AtEnd nothing_seen)) ≡ Done Value.Unit
-unfolding digits encode
+unfolding digits encode chars
 script_152_ending_1 = ending_so _ _
 
 script_152_effects_2 : effects_of script_152 (known 1 [] Broken (known 4 [] MayGoOn nothing_seen)) ≡ Open 2 ∷ Open 1 ∷ []
-unfolding digits encode
+unfolding digits encode chars
 script_152_effects_2 = effects_so _ _
 
 script_152_ending_2 : ending_of script_152 (known 1 [] Broken (known 4 [] MayGoOn nothing_seen)) ≡ Halts (Stop (ReadBad 1))
-unfolding digits encode
+unfolding digits encode chars
 script_152_ending_2 = ending_so _ _
 
 -- run texts [] | { zipConduit(unlines, unlines) } | zipSink(zipSink(peekE, sinkNull), zipSink(headE, lengthE));
@@ -95,11 +96,11 @@ script_156 = run_statement (piped (texts_word [] ∷ sequence_form (zip_conduit_
 script_156_effects_1 : effects_of script_156 nothing_seen ≡ Put 0 61 ∷ Put 0 32 ∷ Put 0 40 ∷ Put 0 40 ∷ Put 0 110 ∷ Put 0 111 ∷ Put 0 110 ∷ Put 0 101
     ∷ Put 0 44 ∷ Put 0 32 ∷ Put 0 40 ∷ Put 0 41 ∷ Put 0 41 ∷ Put 0 44 ∷ Put 0 32 ∷ Put 0 40 ∷ Put 0 110 ∷ Put 0 111 ∷ Put 0 110 ∷ Put 0 101 ∷ Put 0 44
     ∷ Put 0 32 ∷ Put 0 48 ∷ Put 0 41 ∷ Put 0 41 ∷ Put 0 10 ∷ []
-unfolding digits encode
+unfolding digits encode chars
 script_156_effects_1 = effects_so _ _
 
 script_156_ending_1 : ending_of script_156 nothing_seen ≡ Done Value.Unit
-unfolding digits encode
+unfolding digits encode chars
 script_156_ending_1 = ending_so _ _
 
 -- hold k0 = mark "m1";
@@ -112,11 +113,11 @@ script_159 = hold_statement (codes "k0") (codes "m1") ∷ release_statement (cod
 
 script_159_effects_1 : effects_of script_159 nothing_seen ≡ Open 1 ∷ Close 1 ∷ Put 0 61 ∷ Put 0 32 ∷ Put 0 110 ∷ Put 0 111 ∷ Put 0 110 ∷ Put 0 101 ∷
     Put 0 10 ∷ []
-unfolding digits encode
+unfolding digits encode chars
 script_159_effects_1 = effects_so _ _
 
 script_159_ending_1 : ending_of script_159 nothing_seen ≡ Done Value.Unit
-unfolding digits encode
+unfolding digits encode chars
 script_159_ending_1 = ending_so _ _
 
 -- run zipSource(blocks [], sourceFile "c" | lines 9, "😀b\r") | (map suffix "\\" |= intersperse "é") | ({ unlines; flat } | (base64Decode | mapE xor 128)) | (filterE not alpha | (base64Encode | peekE));
@@ -128,20 +129,20 @@ script_166 = run_statement (piped (zip_source_form (240 ∷ 159 ∷ 152 ∷ 128 
 
 script_166_effects_1 : effects_of script_166 (known 1 (codes "3:ab:,0:,3:aa,,1:ab") AtEnd nothing_seen) ≡ Put 0 61 ∷ Put 0 32 ∷ Put 0 110 ∷ Put 0 111
     ∷ Put 0 110 ∷ Put 0 101 ∷ Put 0 10 ∷ []
-unfolding digits encode
+unfolding digits encode chars
 script_166_effects_1 = effects_so _ _
 
 script_166_ending_1 : ending_of script_166 (known 1 (codes "3:ab:,0:,3:aa,,1:ab") AtEnd nothing_seen) ≡ Done Value.Unit
-unfolding digits encode
+unfolding digits encode chars
 script_166_ending_1 = ending_so _ _
 
 script_166_effects_2 : effects_of script_166 (known 1 (codes "3") Broken nothing_seen) ≡ Put 0 61 ∷ Put 0 32 ∷ Put 0 110 ∷ Put 0 111 ∷ Put 0 110 ∷ Put
     0 101 ∷ Put 0 10 ∷ []
-unfolding digits encode
+unfolding digits encode chars
 script_166_effects_2 = effects_so _ _
 
 script_166_ending_2 : ending_of script_166 (known 1 (codes "3") Broken nothing_seen) ≡ Done Value.Unit
-unfolding digits encode
+unfolding digits encode chars
 script_166_ending_2 = ending_so _ _
 
 -- run ((sourceFile "a" | utf8) | (utf8Encode | exact 2)) | mark "m1" { pass } | collect 50;
@@ -151,20 +152,20 @@ script_181 = run_statement (piped (piped (piped (source_file_word (codes "a") �
 
 script_181_effects_1 : effects_of script_181 (known 1 (112 ∷ 82 ∷ 229 ∷ 126 ∷ 130 ∷ 104 ∷ 142 ∷ 125 ∷ 159 ∷ 120 ∷ 248 ∷ 195 ∷ 11 ∷ 160 ∷ 167 ∷ 240 ∷
     101 ∷ 11 ∷ 173 ∷ 229 ∷ []) AtEnd nothing_seen) ≡ Open 2 ∷ Open 1 ∷ []
-unfolding digits encode
+unfolding digits encode chars
 script_181_effects_1 = effects_so _ _
 
 script_181_ending_1 : ending_of script_181 (known 1 (112 ∷ 82 ∷ 229 ∷ 126 ∷ 130 ∷ 104 ∷ 142 ∷ 125 ∷ 159 ∷ 120 ∷ 248 ∷ 195 ∷ 11 ∷ 160 ∷ 167 ∷ 240 ∷ 101
     ∷ 11 ∷ 173 ∷ 229 ∷ []) AtEnd nothing_seen) ≡ Halts (Stop (bad_text 2))
-unfolding digits encode
+unfolding digits encode chars
 script_181_ending_1 = ending_so _ _
 
 script_181_effects_2 : effects_of script_181 (known 1 (112 ∷ 82 ∷ 229 ∷ 126 ∷ 130 ∷ 104 ∷ []) Broken nothing_seen) ≡ Open 2 ∷ Open 1 ∷ []
-unfolding digits encode
+unfolding digits encode chars
 script_181_effects_2 = effects_so _ _
 
 script_181_ending_2 : ending_of script_181 (known 1 (112 ∷ 82 ∷ 229 ∷ 126 ∷ 130 ∷ 104 ∷ []) Broken nothing_seen) ≡ Halts (Stop (bad_text 2))
-unfolding digits encode
+unfolding digits encode chars
 script_181_ending_2 = ending_so _ _
 
 -- run { mark "m3" { sourceFile "a" }; mark "m4" { sourceFile "a" } } | repeatE 0 | exactlyE 9 { filterE not below 256 } | lines 1 | head;
@@ -174,19 +175,19 @@ script_192 = run_statement (piped (sequence_form (mark_form (codes "m3") (source
 
 script_192_effects_1 : effects_of script_192 (known 2 (codes "ca") AtEnd (known 4 (codes "ca") AtEnd nothing_seen)) ≡ Open 1 ∷ Open 2 ∷ Close 2 ∷
     Close 1 ∷ Open 3 ∷ Open 4 ∷ Close 4 ∷ Close 3 ∷ Put 0 61 ∷ Put 0 32 ∷ Put 0 110 ∷ Put 0 111 ∷ Put 0 110 ∷ Put 0 101 ∷ Put 0 10 ∷ []
-unfolding digits encode
+unfolding digits encode chars
 script_192_effects_1 = effects_so _ _
 
 script_192_ending_1 : ending_of script_192 (known 2 (codes "ca") AtEnd (known 4 (codes "ca") AtEnd nothing_seen)) ≡ Done Value.Unit
-unfolding digits encode
+unfolding digits encode chars
 script_192_ending_1 = ending_so _ _
 
 script_192_effects_2 : effects_of script_192 (known 2 [] MayGoOn (known 4 [] Broken nothing_seen)) ≡ Open 1 ∷ Open 2 ∷ []
-unfolding digits encode
+unfolding digits encode chars
 script_192_effects_2 = effects_so _ _
 
 script_192_ending_2 : ending_of script_192 (known 2 [] MayGoOn (known 4 [] Broken nothing_seen)) ≡ Halts (More (Reading 2))
-unfolding digits encode
+unfolding digits encode chars
 script_192_ending_2 = ending_so _ _
 
 -- let s0 = seal replicate 30 "😀";
@@ -199,20 +200,20 @@ script_213 = let_statement (codes "s0") (replicate_word 30 (240 ∷ 159 ∷ 152 
 
 script_213_effects_1 : effects_of script_213 (known 1 (97 ∷ 240 ∷ 159 ∷ 152 ∷ 128 ∷ 226 ∷ 130 ∷ []) AtEnd nothing_seen) ≡ Put 0 61 ∷ Put 0 32 ∷ Put 0
     40 ∷ Put 0 50 ∷ Put 0 48 ∷ Put 0 54 ∷ Put 0 55 ∷ Put 0 48 ∷ Put 0 44 ∷ Put 0 32 ∷ Put 0 40 ∷ Put 0 41 ∷ Put 0 41 ∷ Put 0 10 ∷ Open 1 ∷ []
-unfolding digits encode
+unfolding digits encode chars
 script_213_effects_1 = effects_so _ _
 
 script_213_ending_1 : ending_of script_213 (known 1 (97 ∷ 240 ∷ 159 ∷ 152 ∷ 128 ∷ 226 ∷ 130 ∷ []) AtEnd nothing_seen) ≡ Halts (Stop (bad_text 0))
-unfolding digits encode
+unfolding digits encode chars
 script_213_ending_1 = ending_so _ _
 
 script_213_effects_2 : effects_of script_213 (known 1 (97 ∷ 240 ∷ 159 ∷ 152 ∷ 128 ∷ []) MayGoOn nothing_seen) ≡ Put 0 61 ∷ Put 0 32 ∷ Put 0 40 ∷ Put 0
     50 ∷ Put 0 48 ∷ Put 0 54 ∷ Put 0 55 ∷ Put 0 48 ∷ Put 0 44 ∷ Put 0 32 ∷ Put 0 40 ∷ Put 0 41 ∷ Put 0 41 ∷ Put 0 10 ∷ Open 1 ∷ []
-unfolding digits encode
+unfolding digits encode chars
 script_213_effects_2 = effects_so _ _
 
 script_213_ending_2 : ending_of script_213 (known 1 (97 ∷ 240 ∷ 159 ∷ 152 ∷ 128 ∷ []) MayGoOn nothing_seen) ≡ Halts (Stop (bad_text 0))
-unfolding digits encode
+unfolding digits encode chars
 script_213_ending_2 = ending_so _ _
 
 -- hold k0 = mark "m1";
@@ -224,19 +225,19 @@ script_215 = hold_statement (codes "k0") (codes "m1") ∷ release_statement (cod
     pass_e ∷ drop_e 7 ∷ [])) ∷ []
 
 script_215_effects_1 : effects_of script_215 (known 3 (10 ∷ 97 ∷ 99 ∷ []) AtEnd nothing_seen) ≡ Open 1 ∷ Close 1 ∷ Open 2 ∷ Close 2 ∷ []
-unfolding digits encode
+unfolding digits encode chars
 script_215_effects_1 = effects_so _ _
 
 script_215_ending_1 : ending_of script_215 (known 3 (10 ∷ 97 ∷ 99 ∷ []) AtEnd nothing_seen) ≡ Done Value.Unit
-unfolding digits encode
+unfolding digits encode chars
 script_215_ending_1 = ending_so _ _
 
 script_215_effects_2 : effects_of script_215 (known 3 (10 ∷ []) MayGoOn nothing_seen) ≡ Open 1 ∷ Close 1 ∷ Open 2 ∷ []
-unfolding digits encode
+unfolding digits encode chars
 script_215_effects_2 = effects_so _ _
 
 script_215_ending_2 : ending_of script_215 (known 3 (10 ∷ []) MayGoOn nothing_seen) ≡ Halts (More (Reading 3))
-unfolding digits encode
+unfolding digits encode chars
 script_215_ending_2 = ending_so _ _
 
 -- run zipSource((sourceFile "d" | split "1" 5), sourceFile "a" | lines 9, "0") | tee(sinkNull) | map reverse | take 1 | sinkNull;
@@ -248,20 +249,20 @@ script_256 = run_statement (piped (zip_source_form (codes "0") (piped (source_fi
 
 script_256_effects_1 : effects_of script_256 (known 1 (codes "izbyZao12/YWQLvUtg==") AtEnd (known 2 (codes "0105") AtEnd (known 3 (codes "bab") AtEnd
     nothing_seen))) ≡ Open 1 ∷ Open 2 ∷ Close 2 ∷ Open 3 ∷ Put 0 61 ∷ Put 0 32 ∷ Put 0 116 ∷ Put 0 114 ∷ Put 0 117 ∷ Put 0 101 ∷ Put 0 10 ∷ []
-unfolding digits encode
+unfolding digits encode chars
 script_256_effects_1 = effects_so _ _
 
 script_256_ending_1 : ending_of script_256 (known 1 (codes "izbyZao12/YWQLvUtg==") AtEnd (known 2 (codes "0105") AtEnd (known 3 (codes "bab") AtEnd
     nothing_seen))) ≡ Done Value.Unit
-unfolding digits encode
+unfolding digits encode chars
 script_256_ending_1 = ending_so _ _
 
 script_256_effects_2 : effects_of script_256 (known 1 (codes "izbyZao12/YWQ") MayGoOn (known 2 (codes "01") MayGoOn (known 3 (codes "b") MayGoOn
     nothing_seen))) ≡ Open 1 ∷ Open 2 ∷ []
-unfolding digits encode
+unfolding digits encode chars
 script_256_effects_2 = effects_so _ _
 
 script_256_ending_2 : ending_of script_256 (known 1 (codes "izbyZao12/YWQ") MayGoOn (known 2 (codes "01") MayGoOn (known 3 (codes "b") MayGoOn
     nothing_seen))) ≡ Halts (More (Reading 2))
-unfolding digits encode
+unfolding digits encode chars
 script_256_ending_2 = ending_so _ _

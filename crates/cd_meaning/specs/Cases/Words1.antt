@@ -1,5 +1,6 @@
 -- Cases of tools/cases/words.jsonl, written by tools/cases.py: the number in a name is the line of the case.
 use Rattle.std.specs.Prelude.{[], ◌∷◌, ◌≡◌, codes, map, true, false}
+use Rattle.std.specs.Str.{chars}
 use Rattle.cd_meaning.specs.Stream.{Sort, Elem, Piece, Value, absent, present, NoValues, Another, Reading, More, Stop, bad_hex, bad_base64, Ended, Halted, Done, Halts, Out}
 use Rattle.cd_meaning.specs.Run.{stamp, Then, Ends}
 use Rattle.cd_meaning.specs.Rows.Short.{filter_e, drop_e, drop_while_e, head_e, last_e, all_e, any_e, collect_e, filter_word, intersperse_word, drop_word, drop_while_word, head_word, last_word, collect_word, exact_word, chunks_of_word, flat_word, hex_encode_word, hex_decode_word, base64_encode_word, base64_decode_word, digit, upper, lower, alpha, alnum, hexdigit, space, newline, is_scalar, below, empty, begins, ends, shorter, not_class, not_test}
@@ -209,6 +210,7 @@ word_67 = runs_so _ _ _ _
 -- dropWhile ends "\n"
 word_73 : word_run (drop_while_word (ends (10 ∷ []))) Sort.Text (map Piece ((32 ∷ 13 ∷ 48 ∷ []) ∷ (codes "a1") ∷ [])) Ended ≡ Ends (stamp 1 0) (Done
     Value.Unit)
+unfolding chars
 word_73 = runs_so _ _ _ _
 
 -- dropWhile not shorter 0
@@ -223,6 +225,7 @@ word_75 = runs_so _ _ _ _
 
 -- dropWhile begins "x\n"
 word_76 : word_run (drop_while_word (begins (120 ∷ 10 ∷ []))) Sort.Text (map Piece ((codes "a") ∷ [])) Ended ≡ Ends (stamp 1 0) (Done Value.Unit)
+unfolding chars
 word_76 = runs_so _ _ _ _
 
 -- dropWhile empty
@@ -233,6 +236,7 @@ word_77 = runs_so _ _ _ _
 -- dropWhile begins "éx\n\n"
 word_78 : word_run (drop_while_word (begins (195 ∷ 169 ∷ 120 ∷ 10 ∷ 10 ∷ []))) Sort.Text (map Piece ((8364 ∷ []) ∷ (233 ∷ []) ∷ (32 ∷ 13 ∷ []) ∷
     (codes "A") ∷ (65 ∷ 128512 ∷ []) ∷ [])) (Halted (Stop (bad_hex 7))) ≡ Ends (stamp 1 0) (Done Value.Unit)
+unfolding chars
 word_78 = runs_so _ _ _ _
 
 -- dropWhile not begins "0ab"
@@ -302,6 +306,7 @@ word_97 = runs_so _ _ _ _
 -- filter begins "😀"
 word_98 : word_run (filter_word (begins (240 ∷ 159 ∷ 152 ∷ 128 ∷ []))) Sort.Text [] (Halted (Stop (bad_hex 7))) ≡ Ends (stamp 1 0) (Halts (Stop
     (bad_hex 7)))
+unfolding chars
 word_98 = runs_so _ _ _ _
 
 -- filter ends ","
@@ -443,6 +448,7 @@ word_155 : word_run (intersperse_word (120 ∷ 10 ∷ 45 ∷ 120 ∷ 10 ∷ []))
     (Piece [])) (Then (stamp 3 3) (Out (Piece (120 ∷ 10 ∷ 45 ∷ 120 ∷ 10 ∷ []))) (Then (stamp 3 3) (Out (Piece [])) (Then (stamp 4 4) (Out (Piece (120
     ∷ 10 ∷ 45 ∷ 120 ∷ 10 ∷ []))) (Then (stamp 4 4) (Out (Piece [])) (Then (stamp 5 5) (Out (Piece (120 ∷ 10 ∷ 45 ∷ 120 ∷ 10 ∷ []))) (Then (stamp 5 5)
     (Out (Piece (49 ∷ 97 ∷ 128512 ∷ []))) (Ends (stamp 6 5) (Done Value.Unit))))))))))
+unfolding chars
 word_155 = runs_so _ _ _ _
 
 -- last
@@ -471,7 +477,3 @@ word_170 = runs_so _ _ _ _
 -- lastE
 word_171 : word_run last_e Sort.Chars (map Elem (32 ∷ [])) Ended ≡ Ends (stamp 2 1) (Done (present (Value.Char 32)))
 word_171 = runs_so _ _ _ _
-
--- lastE
-word_172 : word_run last_e Sort.Chars [] Ended ≡ Ends (stamp 1 0) (Done absent)
-word_172 = runs_so _ _ _ _

@@ -1,10 +1,15 @@
 -- Cases of tools/cases/words.jsonl, written by tools/cases.py: the number in a name is the line of the case.
 use Rattle.std.specs.Prelude.{[], ◌∷◌, ◌≡◌, codes, map, true, false}
 use lib.Utf8.{encode}
+use Rattle.std.specs.Str.{chars}
 use Rattle.cd_meaning.specs.Stream.{Sort, Elem, Piece, Value, absent, present, Reading, More, Stop, bad_text, bad_hex, Ended, Halted, Done, Halts, Out, Do, Open, Put, Close}
 use Rattle.cd_meaning.specs.Run.{stamp, Then, Ends}
-use Rattle.cd_meaning.specs.Rows.Short.{pass_e, take_e, take_while_e, map_e, repeat_e, peek_e, length_e, sum_e, null_e, sink_null, pass_word, take_word, take_while_word, repeat_word, map_word, peek_word, length_word, null_word, lines_word, split_word, unlines_word, utf8_word, utf8_lenient_word, utf8_encode_word, sink_file_word, stdout_word, digit, lower, is_scalar, empty, ends, xor, add, rot13, prefix, suffix, reversed, not_test}
+use Rattle.cd_meaning.specs.Rows.Short.{pass_e, take_e, take_while_e, map_e, repeat_e, peek_e, last_e, length_e, sum_e, null_e, sink_null, pass_word, take_word, take_while_word, repeat_word, map_word, peek_word, length_word, null_word, lines_word, split_word, unlines_word, utf8_word, utf8_lenient_word, utf8_encode_word, sink_file_word, stdout_word, digit, lower, is_scalar, empty, ends, xor, add, rot13, prefix, suffix, reversed, not_test}
 use Rattle.cd_meaning.specs.Cases.Known.{word_run, runs_so}
+
+-- lastE
+word_172 : word_run last_e Sort.Chars [] Ended ≡ Ends (stamp 1 0) (Done absent)
+word_172 = runs_so _ _ _ _
 
 -- length
 word_177 : word_run length_word Sort.Text (map Piece ((48 ∷ 233 ∷ 98 ∷ []) ∷ (codes "AG") ∷ (codes "1") ∷ (13 ∷ []) ∷ [])) Ended ≡ Ends (stamp 5 4)
@@ -51,11 +56,13 @@ word_195 = runs_so _ _ _ _
 -- map suffix "é\nx\n"
 word_201 : word_run (map_word (suffix (195 ∷ 169 ∷ 10 ∷ 120 ∷ 10 ∷ []))) Sort.Text [] (Halted (More (Reading 1))) ≡ Ends (stamp 1 0) (Halts (More
     (Reading 1)))
+unfolding chars
 word_201 = runs_so _ _ _ _
 
 -- map prefix "b"
 word_202 : word_run (map_word (prefix (codes "b"))) Sort.Text (map Piece ((codes "00") ∷ [])) Ended ≡ Then (stamp 1 1) (Out (Piece (codes "b00")))
     (Ends (stamp 2 1) (Done Value.Unit))
+unfolding chars
 word_202 = runs_so _ _ _ _
 
 -- map reverse
@@ -74,6 +81,7 @@ word_204 = runs_so _ _ _ _
 
 -- map prefix "\""
 word_205 : word_run (map_word (prefix (34 ∷ []))) Sort.Text [] Ended ≡ Ends (stamp 1 0) (Done Value.Unit)
+unfolding chars
 word_205 = runs_so _ _ _ _
 
 -- map suffix "é"
@@ -359,6 +367,7 @@ word_338 = runs_so _ _ _ _
 -- takeWhile ends "\""
 word_339 : word_run (take_while_word (ends (34 ∷ []))) Sort.Text (map Piece ((61 ∷ 71 ∷ 128512 ∷ []) ∷ (233 ∷ []) ∷ (98 ∷ 233 ∷ 128512 ∷ []) ∷ (codes
     "0") ∷ [] ∷ [])) (Halted (Stop (bad_hex 7))) ≡ Ends (stamp 1 0) (Done Value.Unit)
+unfolding chars
 word_339 = runs_so _ _ _ _
 
 -- takeWhileE is ","

@@ -1,5 +1,6 @@
 -- Classes and maps by their bounds, and tests of pieces.
 use Rattle.std.specs.Prelude.{◌≡◌, ℕ, Bool, refl, List, [], ◌∷◌, map, codes, true, false}
+use Rattle.std.specs.Str.{chars}
 use Rattle.cd_elem.specs.declared.word.Class.{Class}
 use Rattle.cd_meaning.specs.Stream.{Sort}
 use Rattle.cd_meaning.specs.Classes.{is_in_class, element_mapped, passes_test, piece_mapped}
@@ -106,6 +107,7 @@ begins_empty : passes_test (begins []) Sort.Block [] ≡ true
 begins_empty = refl
 
 begins_chars : passes_test (begins (226 ∷ 130 ∷ 172 ∷ [])) Sort.Text (8364 ∷ 97 ∷ []) ≡ true
+unfolding chars
 begins_chars = refl
 
 begins_bytes : passes_test (begins (226 ∷ 130 ∷ 172 ∷ [])) Sort.Block (226 ∷ 130 ∷ 172 ∷ 97 ∷ []) ≡ true
@@ -137,9 +139,11 @@ prefix_bytes : piece_mapped (prefix (226 ∷ 130 ∷ 172 ∷ [])) Sort.Block (co
 prefix_bytes = refl
 
 prefix_chars : piece_mapped (prefix (226 ∷ 130 ∷ 172 ∷ [])) Sort.Text (codes "a") ≡ 8364 ∷ 97 ∷ []
+unfolding chars
 prefix_chars = refl
 
 suffix_chars : piece_mapped (suffix (226 ∷ 130 ∷ 172 ∷ [])) Sort.Text (codes "a") ≡ 97 ∷ 8364 ∷ []
+unfolding chars
 suffix_chars = refl
 
 reversed_is : piece_mapped reversed Sort.Block (codes "abc") ≡ codes "cba"

@@ -1,5 +1,6 @@
 -- Operators, sections, sequences and zips, with the stamps of the whole.
 use Rattle.std.specs.Prelude.{◌≡◌, [], ◌∷◌, codes}
+use Rattle.std.specs.Str.{chars}
 use Rattle.cd_meaning.specs.Stream.{Another, bad_base64, bad_hex, Ended, NoValues, Open, Put, Value, absent, present}
 use Rattle.cd_meaning.specs.RunShapes.{AtEnd, MayGoOn}
 use Rattle.cd_meaning.specs.Rows.Short.{base64_decode_word, blocks_word, bytes_word, chunks_of_word, digit, drop_e, drop_word, empty, exactly_e_form, exactly_form, filter_e, flat_word, head_e, head_word, hex_decode_word, length_e, length_word, line_e_form, lines_word, map_e, map_word, pass_e, pass_word, peek_e, peek_word, piped, piped_asked, piped_both, piped_keep, piped_return, piped_up, reversed, sequence_form, sink_file_word, sink_null, source_file_word, stdin_word, stdout_word, take_e, take_while_e, take_while_word, take_word, tee_form, texts_word, xor, zip_conduit_form, zip_sink_form, zip_source_form}
@@ -260,6 +261,7 @@ zip_source_second_ends : on_nothing (zip_source_form (codes ":") (blocks_word (c
 zip_source_second_ends = simp rows
 
 zip_source_texts : on_nothing (zip_source_form (226 ∷ 130 ∷ 172 ∷ []) (texts_word (codes "a" ∷ [])) (texts_word (codes "b" ∷ []))) (seen_of []) ≡ gives_piece 0 (97 ∷ 8364 ∷ 98 ∷ []) (done_at 0 0 Value.Unit)
+unfolding chars
 zip_source_texts = simp rows
 
 zip_source_waits : on_nothing (zip_source_form (codes ":") (blocks_word (codes "a" ∷ [])) (piped (source_file_word (codes "a") ∷ lines_word 9 ∷ []))) (seen_of (told_of 1 (codes "x") MayGoOn ∷ [])) ≡ does_at 0 0 (Open 1) (waits_for 1)

@@ -1,5 +1,6 @@
 -- The words on pieces, each on an empty input, an input that ends before the word does, one that waits, and where the word ends by itself.
 use Rattle.std.specs.Prelude.{◌≡◌, [], ◌∷◌, codes, true, false}
+use Rattle.std.specs.Str.{chars}
 use Rattle.cd_meaning.specs.Stream.{Another, Ended, NoValues, Value, absent, present}
 use Rattle.cd_meaning.specs.Rows.Short.{begins, collect_word, drop_while_word, drop_word, empty, ends, filter_word, head_word, intersperse_word, last_word, length_word, map_word, not_test, null_word, pass_word, peek_word, prefix, repeat_word, reversed, shorter, suffix, take_while_word, take_word}
 use Rattle.cd_meaning.specs.Rows.Given.{rows, at_end, done_at, gives_piece, on_blocks, on_texts, waiting, waits_past}
@@ -51,6 +52,7 @@ filter_waits : on_blocks (filter_word (not_test empty)) ([] ∷ codes "b" ∷ []
 filter_waits = simp rows
 
 filter_texts : on_texts (filter_word (ends (226 ∷ 130 ∷ 172 ∷ []))) ((49 ∷ 8364 ∷ []) ∷ (226 ∷ 130 ∷ 172 ∷ []) ∷ []) Ended ≡ gives_piece 1 (49 ∷ 8364 ∷ []) (at_end 2)
+unfolding chars
 filter_texts = simp rows
 
 -- `repeat`
@@ -74,6 +76,7 @@ map_prefix : on_blocks (map_word (prefix (codes "+"))) (codes "a" ∷ []) Ended 
 map_prefix = simp rows
 
 map_suffix : on_texts (map_word (suffix (226 ∷ 130 ∷ 172 ∷ []))) (codes "a" ∷ []) Ended ≡ gives_piece 1 (97 ∷ 8364 ∷ []) (at_end 1)
+unfolding chars
 map_suffix = simp rows
 
 map_waits : on_blocks (map_word (prefix (codes "+"))) (codes "a" ∷ []) waiting ≡ gives_piece 1 (codes "+a") (waits_past 1)
@@ -93,6 +96,7 @@ intersperse_waits : on_blocks (intersperse_word (codes "-")) (codes "a" ∷ []) 
 intersperse_waits = simp rows
 
 intersperse_texts : on_texts (intersperse_word (226 ∷ 130 ∷ 172 ∷ [])) (codes "a" ∷ codes "b" ∷ []) waiting ≡ gives_piece 1 (codes "a") (gives_piece 2 (8364 ∷ []) (gives_piece 2 (codes "b") (waits_past 2)))
+unfolding chars
 intersperse_texts = simp rows
 
 -- `drop`

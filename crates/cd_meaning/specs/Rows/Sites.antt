@@ -2,6 +2,7 @@
 use Rattle.std.specs.Prelude.{◌≡◌, ℕ, List, [], ◌∷◌, ◌++◌, codes}
 use lib.Utf8.{encode}
 use Rattle.std.specs.Fmt.{digits}
+use Rattle.std.specs.Str.{chars}
 use Rattle.cd_meaning.specs.Stream.{bad_hex, bad_text, Close, Ended, Halted, Long, Open, Put, ReadBad, Stop, Value, present}
 use Rattle.cd_meaning.specs.RunShapes.{AtEnd, Broken, MayGoOn, TooLong}
 use Rattle.cd_meaning.specs.Rows.Short.{blocks_word, bytes_word, head_e, hex_decode_word, mark_form, pass_e, range_word, replicate_word, sink_file_word, source_file_word, stdin_word, stdout_word, take_e, text_word, texts_word}
@@ -47,12 +48,15 @@ bytes_euro : on_nothing (bytes_word (226 ∷ 130 ∷ 172 ∷ [])) (seen_of []) �
 bytes_euro = simp rows
 
 text_empty : on_nothing (text_word []) (seen_of []) ≡ done_at 0 0 Value.Unit
+unfolding chars
 text_empty = simp rows
 
 text_euro : on_nothing (text_word (97 ∷ 226 ∷ 130 ∷ 172 ∷ [])) (seen_of []) ≡ gives_elem 0 97 (gives_elem 0 8364 (done_at 0 0 Value.Unit))
+unfolding chars
 text_euro = simp rows
 
 text_sizes : on_nothing (text_word (195 ∷ 169 ∷ 240 ∷ 159 ∷ 152 ∷ 128 ∷ 97 ∷ [])) (seen_of []) ≡ gives_elem 0 233 (gives_elem 0 128512 (gives_elem 0 97 (done_at 0 0 Value.Unit)))
+unfolding chars
 text_sizes = simp rows
 
 -- the first and the last character of each length, between two of one byte
@@ -60,22 +64,28 @@ abbrev TextOf : List ℕ → ℕ → Type 0
 TextOf bytes c = on_nothing (text_word (97 ∷ bytes ++ 98 ∷ [])) (seen_of []) ≡ gives_elem 0 97 (gives_elem 0 c (gives_elem 0 98 (done_at 0 0 Value.Unit)))
 
 text_of_one : TextOf (0 ∷ []) 0 × TextOf (127 ∷ []) 127
+unfolding chars
 text_of_one = (simp rows, simp rows)
 
 text_of_two : TextOf (194 ∷ 128 ∷ []) 128 × TextOf (223 ∷ 191 ∷ []) 2047
+unfolding chars
 text_of_two = (simp rows, simp rows)
 
 text_of_three : TextOf (224 ∷ 160 ∷ 128 ∷ []) 2048 × TextOf (239 ∷ 191 ∷ 191 ∷ []) 65535
+unfolding chars
 text_of_three = (simp rows, simp rows)
 
 text_of_four : TextOf (240 ∷ 144 ∷ 128 ∷ 128 ∷ []) 65536 × TextOf (244 ∷ 143 ∷ 191 ∷ 191 ∷ []) 1114111
+unfolding chars
 text_of_four = (simp rows, simp rows)
 
 -- with nothing before or behind it
 text_alone : on_nothing (text_word (224 ∷ 160 ∷ 128 ∷ [])) (seen_of []) ≡ gives_elem 0 2048 (done_at 0 0 Value.Unit)
+unfolding chars
 text_alone = simp rows
 
 text_first : on_nothing (text_word (224 ∷ 160 ∷ 128 ∷ 97 ∷ [])) (seen_of []) ≡ gives_elem 0 2048 (gives_elem 0 97 (done_at 0 0 Value.Unit))
+unfolding chars
 text_first = simp rows
 
 blocks_empty : on_nothing (blocks_word []) (seen_of []) ≡ done_at 0 0 Value.Unit
@@ -88,6 +98,7 @@ texts_empty : on_nothing (texts_word []) (seen_of []) ≡ done_at 0 0 Value.Unit
 texts_empty = simp rows
 
 texts_euro : on_nothing (texts_word ((226 ∷ 130 ∷ 172 ∷ []) ∷ [])) (seen_of []) ≡ gives_piece 0 (8364 ∷ []) (done_at 0 0 Value.Unit)
+unfolding chars
 texts_euro = simp rows
 
 replicate_none : on_nothing (replicate_word 0 (codes "x")) (seen_of []) ≡ done_at 0 0 Value.Unit
