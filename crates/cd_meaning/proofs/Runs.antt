@@ -3,6 +3,7 @@ pub mod Bases
 pub mod Elements
 pub mod Keeps
 pub mod Pieces
+pub mod PlainSplitters
 pub mod Results
 pub mod Scans
 pub mod Sequences

@@ -9,6 +9,7 @@ pub mod Laws
 pub mod MoreScripts
 pub mod Pieces
 pub mod Places
+pub mod PlainSplitters
 pub mod Results
 pub mod Scripts
 pub mod Short

@@ -1,5 +1,5 @@
 -- A run: a list of stamped acts and a stamped ending.
-use Rattle.std.specs.Prelude.{ℕ, suc, List, [], ◌∷◌}
+use Rattle.std.specs.Prelude.{ℕ, suc, min, List, [], ◌∷◌}
 use Rattle.cd_meaning.specs.Stream.{Item, Value, End, Ended, Halted, Ending, Done, Halts, Act, Out, Do, Effect, end_of_ending}
 
 -- How many values were asked for, and how many of them were taken and not given back.
@@ -9,6 +9,10 @@ pub record Stamp : Type 0 where
 
 abbrev pub stamp : ℕ → ℕ → Stamp
 stamp need net = record { need = need; net = net }
+
+-- what has this need on n values, and keeps what it asked for
+abbrev pub at_need : ℕ → ℕ → Stamp
+at_need n need = stamp need (min need n)
 
 abbrev pub start : Stamp
 start = stamp 0 0

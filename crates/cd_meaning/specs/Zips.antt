@@ -1,7 +1,7 @@
 -- Zips: two runs side by side.
-use Rattle.std.specs.Prelude.{ℕ, min, max, nat_le, Bool, if◌then◌else◌, List, [], ◌++◌, length}
+use Rattle.std.specs.Prelude.{ℕ, max, nat_le, Bool, if◌then◌else◌, List, [], ◌++◌, length}
 use Rattle.cd_meaning.specs.Stream.{Item, Piece, Value, Ended, Ending, Done, Halts, Act, Out, Do}
-use Rattle.cd_meaning.specs.Run.{Stamp, stamp, start, Run, Then, Ends, Component}
+use Rattle.cd_meaning.specs.Run.{Stamp, at_need, start, Run, Then, Ends, Component}
 use Rattle.cd_meaning.specs.RunShapes.{elements}
 use Rattle.cd_meaning.specs.ElementWords.{passed}
 use Rattle.cd_meaning.specs.Fusion.{both}
@@ -32,10 +32,6 @@ zip_source separator a b xs e = zip_runs separator (a [] Ended) (b [] Ended)
 -- ---- `zipSink`, `zipConduit`, `tee`
 
 -- Two runs on n values, by need, at equal need a's acts and ending before b's.
-
--- the stamp of what has this need: its net is that too, or n where n is less
-abbrev pub at_need : ℕ → ℕ → Stamp
-at_need n need = stamp need (min need n)
 
 -- what the first part does at s comes before what the second does at t
 abbrev pub is_first : Stamp → Stamp → Bool

@@ -14,8 +14,10 @@ ghost use Rattle.cd_meaning.specs.Fusion.{fuse};
 ghost use Rattle.cd_meaning.specs.LawfulTrees.{IsLawfulScript, IsLawfulTree};
 ghost use Rattle.cd_meaning.specs.Laws.{EachStamp, IsRun, IsStamp, Rising, cut};
 ghost use Rattle.cd_meaning.specs.Pipes.{pipe_meaning};
+ghost use Rattle.cd_meaning.specs.PlainSplitters.{plain_chunks_of, plain_exact, plain_split};
 ghost use Rattle.cd_meaning.specs.Run.{Component};
 ghost use Rattle.cd_meaning.specs.Scripts.{script_run};
+ghost use Rattle.cd_meaning.specs.Splitters.{chunks_of, exact, split};
 ghost use Rattle.cd_meaning.specs.Stream.{End, Flow, Halt, Halted, Item};
 ghost use Rattle.cd_meaning.specs.Twins.{twin};
 ghost use Rattle.cd_meaning.specs.WordMeanings.{element_word, piece_word, split_word, word_meaning};
@@ -71,4 +73,16 @@ pub fn equal_words()
     ensures lines { (n : ℕ) → split_word (SplitWord.Lines n) ≡ split_word (SplitWord.Split newline n) }
     ensures sections { (n : ℕ) (p : Pipe) → pipe_meaning (pipe.ExactlyE n p) ≡ pipe_meaning (pipe.Exactly n p) }
     ensures zips { (p q : Pipe) → pipe_meaning (pipe.ZipConduit p q) ≡ pipe_meaning (pipe.ZipSink p q) }
+{}
+
+/// Words as the rules say them, by whole lists: for every input, however it ends, their runs are those of the forms that the
+/// other laws are proved of.
+///
+/// `split` cuts the list at each separator, and each line from the left into pieces of N; what stands behind the last
+/// separator is a line only where it is not empty. `exact` and `chunksOf` cut the list so. A whole piece comes at its last
+/// element, and a shorter one at the separator that ends its line, or at the end. `lines` is `split` at the newline.
+pub fn plain_forms()
+    ensures split { (separator n : ℕ) (xs : List Item) (e : End) → split separator n xs e ≡ plain_split separator n xs e }
+    ensures exact { (n : ℕ) (xs : List Item) (e : End) → exact n xs e ≡ plain_exact n xs e }
+    ensures chunks_of { (n : ℕ) (xs : List Item) (e : End) → chunks_of n xs e ≡ plain_chunks_of n xs e }
 {}
