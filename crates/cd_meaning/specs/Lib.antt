@@ -12,6 +12,7 @@ pub mod PieceWords
 pub mod Pipes
 pub mod Places
 pub mod PlainSplitters
+pub mod PlainZips
 pub mod Rest
 pub mod Rows
 pub mod Run

@@ -10,6 +10,7 @@ pub mod MoreScripts
 pub mod Pieces
 pub mod Places
 pub mod PlainSplitters
+pub mod PlainZips
 pub mod Results
 pub mod Scripts
 pub mod Short

@@ -15,13 +15,15 @@ ghost use Rattle.cd_meaning.specs.LawfulTrees.{IsLawfulScript, IsLawfulTree};
 ghost use Rattle.cd_meaning.specs.Laws.{EachStamp, IsRun, IsStamp, Rising, cut};
 ghost use Rattle.cd_meaning.specs.Pipes.{pipe_meaning};
 ghost use Rattle.cd_meaning.specs.PlainSplitters.{plain_chunks_of, plain_exact, plain_split};
-ghost use Rattle.cd_meaning.specs.Run.{Component};
+ghost use Rattle.cd_meaning.specs.PlainZips.{plain_merge, plain_zip};
+ghost use Rattle.cd_meaning.specs.Run.{Component, Run};
 ghost use Rattle.cd_meaning.specs.Scripts.{script_run};
 ghost use Rattle.cd_meaning.specs.Splitters.{chunks_of, exact, split};
 ghost use Rattle.cd_meaning.specs.Stream.{End, Flow, Halt, Halted, Item};
 ghost use Rattle.cd_meaning.specs.Twins.{twin};
 ghost use Rattle.cd_meaning.specs.WordMeanings.{element_word, piece_word, split_word, word_meaning};
 ghost use Rattle.cd_meaning.specs.RunShapes.{Seen};
+ghost use Rattle.cd_meaning.specs.Zips.{merge};
 
 /// The prefix law: what was known of a front is never taken back.
 ///
@@ -81,8 +83,16 @@ pub fn equal_words()
 /// `split` cuts the list at each separator, and each line from the left into pieces of N; what stands behind the last
 /// separator is a line only where it is not empty. `exact` and `chunksOf` cut the list so. A whole piece comes at its last
 /// element, and a shorter one at the separator that ends its line, or at the end. `lines` is `split` at the newline.
+///
+/// Two parts on one input do what both do by need, at equal need what the first does before what the second does, up to
+/// where one goes no further; where both are done, they are done at the larger need. This holds of all runs whose needs never
+/// fall and are at most n + 1 on n values, as those of words and lawful trees are.
 pub fn plain_forms()
     ensures split { (separator n : ℕ) (xs : List Item) (e : End) → split separator n xs e ≡ plain_split separator n xs e }
     ensures exact { (n : ℕ) (xs : List Item) (e : End) → exact n xs e ≡ plain_exact n xs e }
     ensures chunks_of { (n : ℕ) (xs : List Item) (e : End) → chunks_of n xs e ≡ plain_chunks_of n xs e }
+    ensures merges { (n : ℕ) (a b : Run) → Rising 0 a → Rising 0 b → EachStamp (IsStamp n) a → EachStamp (IsStamp n) b → merge n a b ≡ plain_merge n a b }
+    ensures zips { (p q : Pipe) → IsLawfulTree p → IsLawfulTree q → (flow : Flow) (site : ℕ) (seen : Seen) (xs : List Item) (e : End)
+        → (pipe_meaning (pipe.ZipSink p q)).run flow site seen xs e
+        ≡ plain_zip ((pipe_meaning p).run flow site seen) ((pipe_meaning q).run flow (site + length (pipe_meaning p).places) seen) xs e }
 {}
