@@ -3,5 +3,6 @@ pub mod Finish
 pub mod Grouped
 pub mod Inputs
 pub mod Laws
+pub mod Plain
 pub mod Steps
 pub mod Through

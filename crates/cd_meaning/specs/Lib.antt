@@ -11,6 +11,7 @@ pub mod Meaning
 pub mod PieceWords
 pub mod Pipes
 pub mod Places
+pub mod PlainFusion
 pub mod PlainSplitters
 pub mod PlainZips
 pub mod Rest

@@ -9,6 +9,7 @@ pub mod Laws
 pub mod MoreScripts
 pub mod Pieces
 pub mod Places
+pub mod PlainFusion
 pub mod PlainSplitters
 pub mod PlainZips
 pub mod Results

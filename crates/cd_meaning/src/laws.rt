@@ -10,16 +10,17 @@ ghost use Rattle.cd_elem.specs.declared.word.PieceWord.{PieceWord};
 ghost use Rattle.cd_elem.specs.declared.word.SplitWord.{SplitWord};
 ghost use Rattle.cd_elem.specs.declared.word.Word.{Word};
 ghost use Rattle.cd_meaning.specs.Further.{Begins, Further, GoesOn};
-ghost use Rattle.cd_meaning.specs.Fusion.{fuse};
+ghost use Rattle.cd_meaning.specs.Fusion.{fuse, fuse_asked, fuse_drained, fuse_keep, fuse_return};
 ghost use Rattle.cd_meaning.specs.LawfulTrees.{IsLawfulScript, IsLawfulTree};
 ghost use Rattle.cd_meaning.specs.Laws.{EachStamp, IsRun, IsStamp, Rising, cut};
 ghost use Rattle.cd_meaning.specs.Pipes.{pipe_meaning};
+ghost use Rattle.cd_meaning.specs.PlainFusion.{plain_fuse, plain_fuse_asked, plain_fuse_drained, plain_fuse_keep, plain_fuse_return};
 ghost use Rattle.cd_meaning.specs.PlainSplitters.{plain_chunks_of, plain_exact, plain_split};
 ghost use Rattle.cd_meaning.specs.PlainZips.{plain_merge, plain_zip};
 ghost use Rattle.cd_meaning.specs.Run.{Component, Run};
 ghost use Rattle.cd_meaning.specs.Scripts.{script_run};
 ghost use Rattle.cd_meaning.specs.Splitters.{chunks_of, exact, split};
-ghost use Rattle.cd_meaning.specs.Stream.{End, Flow, Halt, Halted, Item};
+ghost use Rattle.cd_meaning.specs.Stream.{End, Flow, Halt, Halted, Item, Value};
 ghost use Rattle.cd_meaning.specs.Twins.{twin};
 ghost use Rattle.cd_meaning.specs.WordMeanings.{element_word, piece_word, split_word, word_meaning};
 ghost use Rattle.cd_meaning.specs.RunShapes.{Seen};
@@ -95,4 +96,19 @@ pub fn plain_forms()
     ensures zips { (p q : Pipe) → IsLawfulTree p → IsLawfulTree q → (flow : Flow) (site : ℕ) (seen : Seen) (xs : List Item) (e : End)
         → (pipe_meaning (pipe.ZipSink p q)).run flow site seen xs e
         ≡ plain_zip ((pipe_meaning p).run flow site seen) ((pipe_meaning q).run flow (site + length (pipe_meaning p).places) seen) xs e }
+{}
+
+/// Fusion as the rules say it, by A[j], which is what stands in a run up to and with its j-th output, and all of it where it
+/// has fewer: of any two components.
+///
+/// The second part's acts stand in their order. Before an act of need j stand those effects of A[j] that are not there yet,
+/// and the act has the stamp of A[j], or its own under `|=`. `|+`, `|?`, `|&`, `|<` and sections differ in what becomes of
+/// the second part's value: of the last three, the effects of the first part that are not there yet follow, and its ending.
+pub fn plain_fusion()
+    ensures fuse { (a b : Component) (xs : List Item) (e : End) → fuse a b xs e ≡ plain_fuse a b xs e }
+    ensures fuse_keep { (a b : Component) (xs : List Item) (e : End) → fuse_keep a b xs e ≡ plain_fuse_keep a b xs e }
+    ensures fuse_return { (list : List Item → Value) (a b : Component) (xs : List Item) (e : End) → fuse_return list a b xs e ≡ plain_fuse_return list a b xs e }
+    ensures fuse_asked { (a b : Component) (xs : List Item) (e : End) → fuse_asked a b xs e ≡ plain_fuse_asked a b xs e }
+    ensures fuse_drained { (pair : Value → Value → Value) (a b : Component) (xs : List Item) (e : End)
+        → fuse_drained pair a b xs e ≡ plain_fuse_drained pair a b xs e }
 {}

@@ -10,7 +10,9 @@ ghost use Rattle.cd_meaning.specs.RunShapes.{Seen};
 ghost use Rattle.cd_meaning.specs.Scripts.{script_run, standard_output, whole_files};
 ghost use Rattle.cd_meaning.specs.TakeForm.{front_effects, front_ending, take_script};
 
-pub use laws::{equal_words, need_bound, plain_forms, prefix_law, weave_associativity};
+pub use laws::{
+    equal_words, need_bound, plain_forms, plain_fusion, prefix_law, weave_associativity,
+};
 
 /// What `run sourceFile "NAME" | takeE N | stdout;` means, for every name, every N and whatever is seen of the file:
 /// what it does, how it ends, and what standard output gets, of what was seen and of whole files.
