@@ -4,6 +4,7 @@ pub mod Elements
 pub mod Keeps
 pub mod Pieces
 pub mod PlainSplitters
+pub mod PlainText
 pub mod Results
 pub mod Scans
 pub mod Sequences

@@ -13,6 +13,7 @@ pub mod Pipes
 pub mod Places
 pub mod PlainFusion
 pub mod PlainSplitters
+pub mod PlainText
 pub mod PlainZips
 pub mod Rest
 pub mod Rows

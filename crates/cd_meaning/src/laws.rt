@@ -1,5 +1,6 @@
 // Laws of the meaning. Each is the contract of a function that does nothing.
-ghost use Rattle.std.specs.Prelude.{◌≡◌, ◌≤◌, ◌<◌, ◌+◌, ℕ, Bool, List, [], ◌∷◌, ◌++◌, length, Some};
+ghost use Rattle.std.specs.Prelude.{◌≡◌, ◌≤◌, ◌<◌, ◌+◌, ℕ, Bool, true, List, [], ◌∷◌, ◌++◌, length, Some};
+ghost use Rattle.std.specs.Str.{all_scalars};
 ghost use Rattle.cd_elem.specs.Ascii.{newline};
 ghost use Rattle.cd_elem.specs.declared.script.Join.TheVariants.{Plain};
 ghost use Rattle.cd_elem.specs.declared.script.Pipe.{Pipe};
@@ -16,11 +17,13 @@ ghost use Rattle.cd_meaning.specs.Laws.{EachStamp, IsRun, IsStamp, Rising, cut};
 ghost use Rattle.cd_meaning.specs.Pipes.{pipe_meaning};
 ghost use Rattle.cd_meaning.specs.PlainFusion.{plain_fuse, plain_fuse_asked, plain_fuse_drained, plain_fuse_keep, plain_fuse_return};
 ghost use Rattle.cd_meaning.specs.PlainSplitters.{plain_chunks_of, plain_exact, plain_split};
+ghost use Rattle.cd_meaning.specs.PlainText.{bytes_of, plain_text};
 ghost use Rattle.cd_meaning.specs.PlainZips.{plain_merge, plain_zip};
 ghost use Rattle.cd_meaning.specs.Run.{Component, Run};
 ghost use Rattle.cd_meaning.specs.Scripts.{script_run};
 ghost use Rattle.cd_meaning.specs.Splitters.{chunks_of, exact, split};
 ghost use Rattle.cd_meaning.specs.Stream.{End, Flow, Halt, Halted, Item, Value};
+ghost use Rattle.cd_meaning.specs.Text.{utf8, utf8_lenient};
 ghost use Rattle.cd_meaning.specs.Twins.{twin};
 ghost use Rattle.cd_meaning.specs.WordMeanings.{element_word, piece_word, split_word, word_meaning};
 ghost use Rattle.cd_meaning.specs.RunShapes.{Seen};
@@ -111,4 +114,11 @@ pub fn plain_fusion()
     ensures fuse_asked { (a b : Component) (xs : List Item) (e : End) → fuse_asked a b xs e ≡ plain_fuse_asked a b xs e }
     ensures fuse_drained { (pair : Value → Value → Value) (a b : Component) (xs : List Item) (e : End)
         → fuse_drained pair a b xs e ≡ plain_fuse_drained pair a b xs e }
+{}
+
+/// UTF-8 as the rules say it, by characters: on the bytes of a text, `utf8` and `utf8Lenient` give its characters, each at its
+/// last byte.
+pub fn plain_utf8()
+    ensures text { (cs : List ℕ) → all_scalars cs ≡ true → (e : End) → utf8 (bytes_of cs) e ≡ plain_text cs e }
+    ensures lenient { (cs : List ℕ) → all_scalars cs ≡ true → (e : End) → utf8_lenient (bytes_of cs) e ≡ plain_text cs e }
 {}
