@@ -1,5 +1,6 @@
 -- Each formula of a word and of a form is a run that a scan or a weave makes.
 pub mod Bases
+pub mod ByteRows
 pub mod Elements
 pub mod Keeps
 pub mod Pieces

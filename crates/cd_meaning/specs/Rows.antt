@@ -11,6 +11,7 @@ pub mod Pieces
 pub mod Places
 pub mod PlainFusion
 pub mod PlainSplitters
+pub mod PlainText
 pub mod PlainZips
 pub mod Results
 pub mod Scripts

@@ -1,6 +1,6 @@
 // Laws of the meaning. Each is the contract of a function that does nothing.
-ghost use Rattle.std.specs.Prelude.{◌≡◌, ◌≤◌, ◌<◌, ◌+◌, ℕ, Bool, true, List, [], ◌∷◌, ◌++◌, length, Some};
-ghost use Rattle.std.specs.Str.{all_scalars};
+ghost use Rattle.std.specs.Prelude.{◌≡◌, ◌≤◌, ◌<◌, ◌+◌, ℕ, Bool, true, List, [], ◌∷◌, ◌++◌, length, map, Some};
+ghost use Rattle.std.specs.Str.{all_scalars, encode_utf8_all};
 ghost use Rattle.cd_elem.specs.Ascii.{newline};
 ghost use Rattle.cd_elem.specs.declared.script.Join.TheVariants.{Plain};
 ghost use Rattle.cd_elem.specs.declared.script.Pipe.{Pipe};
@@ -17,12 +17,12 @@ ghost use Rattle.cd_meaning.specs.Laws.{EachStamp, IsRun, IsStamp, Rising, cut};
 ghost use Rattle.cd_meaning.specs.Pipes.{pipe_meaning};
 ghost use Rattle.cd_meaning.specs.PlainFusion.{plain_fuse, plain_fuse_asked, plain_fuse_drained, plain_fuse_keep, plain_fuse_return};
 ghost use Rattle.cd_meaning.specs.PlainSplitters.{plain_chunks_of, plain_exact, plain_split};
-ghost use Rattle.cd_meaning.specs.PlainText.{bytes_of, plain_text};
+ghost use Rattle.cd_meaning.specs.PlainText.{BeginNone, IsUnfinished, bytes_of, plain_text, refused_behind};
 ghost use Rattle.cd_meaning.specs.PlainZips.{plain_merge, plain_zip};
-ghost use Rattle.cd_meaning.specs.Run.{Component, Run};
+ghost use Rattle.cd_meaning.specs.Run.{Component, Run, stamp};
 ghost use Rattle.cd_meaning.specs.Scripts.{script_run};
 ghost use Rattle.cd_meaning.specs.Splitters.{chunks_of, exact, split};
-ghost use Rattle.cd_meaning.specs.Stream.{End, Flow, Halt, Halted, Item, Value};
+ghost use Rattle.cd_meaning.specs.Stream.{Elem, End, Ended, Flow, Halt, Halted, Item, Value};
 ghost use Rattle.cd_meaning.specs.Text.{utf8, utf8_lenient};
 ghost use Rattle.cd_meaning.specs.Twins.{twin};
 ghost use Rattle.cd_meaning.specs.WordMeanings.{element_word, piece_word, split_word, word_meaning};
@@ -118,7 +118,17 @@ pub fn plain_fusion()
 
 /// UTF-8 as the rules say it, by characters: on the bytes of a text, `utf8` and `utf8Lenient` give its characters, each at its
 /// last byte.
+///
+/// Behind the characters of a text, `utf8` stops at the first byte with which the bytes since the last character are the front
+/// of no character's, or at the end where they are the front of one that is not whole. The offset that it tells is the number
+/// of bytes of the characters before.
 pub fn plain_utf8()
     ensures text { (cs : List ℕ) → all_scalars cs ≡ true → (e : End) → utf8 (bytes_of cs) e ≡ plain_text cs e }
     ensures lenient { (cs : List ℕ) → all_scalars cs ≡ true → (e : End) → utf8_lenient (bytes_of cs) e ≡ plain_text cs e }
+    ensures unfinished { (cs bytes : List ℕ) → all_scalars cs ≡ true → 0 < length bytes → IsUnfinished bytes
+        → utf8 (bytes_of cs ++ map Elem bytes) Ended
+        ≡ refused_behind cs (stamp (length (encode_utf8_all cs) + length bytes + 1) (length (encode_utf8_all cs) + length bytes)) }
+    ensures bad { (cs bytes : List ℕ) (b : ℕ) (more : List ℕ) (e : End) → all_scalars cs ≡ true → IsUnfinished bytes → BeginNone (bytes ++ b ∷ [])
+        → utf8 (bytes_of cs ++ map Elem (bytes ++ b ∷ more)) e
+        ≡ refused_behind cs (stamp (length (encode_utf8_all cs) + length bytes + 1) (length (encode_utf8_all cs) + length bytes + 1)) }
 {}

@@ -1,14 +1,15 @@
 -- A text of characters is read as these characters.
 use Rattle.std.proofs.Common.{◌≡◌, ℕ, suc, ◌+◌, ◌-◌, ◌*◌, ◌/◌, ◌%◌, ◌<◌, ◌≤◌, ◌⊎◌, inl, inr, Bool, true, false, ◌==◌, nat_lt, nat_le, ◌&&◌, if◌then◌else◌, List, [], ◌∷◌, ◌++◌, length, map, Option, Some, None, refl, ap, sym, ◌∙◌, subst, arith, encode_utf8, append_assoc, length-append}
 use Rattle.std.specs.Str.{encode_utf8_all, all_scalars}
-use Rattle.std.proofs.lemmas.Bool.{cases_lt, cases_eq, le-ltb, lt-ltb, le-leb, eq-eqb, ne_eqb}
-use Rattle.std.proofs.lemmas.List.{map-append}
+use Rattle.std.proofs.lemmas.Bool.{cases_lt, cases_eq, le-ltb, lt-ltb, le-leb, leb-true, eq-eqb, ne_eqb}
+use Rattle.std.proofs.lemmas.List.{append-nil, map-append}
 use lib.Utf8.{encode, scalar, scalar_cases}
-use Rattle.cd_meaning.specs.Stream.{Item, Elem, Value, End, Ended, Halted, Out}
-use Rattle.cd_meaning.specs.Run.{stamp, Run, Then, past}
-use Rattle.cd_meaning.specs.RunShapes.{number}
-use Rattle.cd_meaning.specs.Text.{Range, range, is_in, tail, following, first_bits, more_bits, read_on, utf8_from, utf8, lenient_from, utf8_lenient}
-use Rattle.cd_meaning.specs.PlainText.{characters_out, bytes_of, plain_text}
+use Rattle.cd_meaning.specs.Stream.{Item, Elem, Value, bad_text, Stop, End, Ended, Halted, Halts, Out}
+use Rattle.cd_meaning.specs.Run.{stamp, Run, Then, Ends, past}
+use Rattle.cd_meaning.specs.RunShapes.{number, as_count}
+use Rattle.cd_meaning.specs.Text.{Range, range, is_in, tail, following, first_bits, more_bits, read_on, read_byte, utf8_from, utf8, lenient_from, utf8_lenient}
+use Rattle.cd_meaning.specs.PlainText.{characters_out, bytes_of, plain_text, IsUnfinished, BeginNone, refused_behind}
+use Rattle.cd_meaning.proofs.Runs.ByteRows.{InRanges, AllSome, IsCharacter, IsRow, row_of}
 
 -- these bytes are in the ranges, one for each, and end the bits of a character
 abbrev Fits : List Range → ℕ → List ℕ → ℕ → Type 0
@@ -167,6 +168,144 @@ reads_text at i n (c ∷ cs) e h k =
 
 pub utf8_reads_text : (cs : List ℕ) → all_scalars cs ≡ true → (e : End) → utf8 (bytes_of cs) e ≡ plain_text cs e
 utf8_reads_text cs h e = reads_text 0 0 (length (encode_utf8_all cs)) cs e h (omega arith)
+
+-- ---- what is bad
+
+at_any : (at at' i : ℕ) (xs : List Item) (e : End) → utf8_from at i [] 0 xs e ≡ utf8_from at' i [] 0 xs e
+at_any at at' i [] e = refl
+at_any at at' i (x ∷ xs) e = refl
+
+reads_before : (at i n : ℕ) (cs bytes : List ℕ) (e : End) → all_scalars cs ≡ true → n ≡ i + length (encode_utf8_all cs)
+    → utf8_from at i [] 0 (map Elem (encode_utf8_all cs ++ bytes)) e ≡ characters_out i cs (utf8_from 0 n [] 0 (map Elem bytes) e)
+reads_before at i n [] bytes e h k = (let m : n ≡ i = omega (arith, k) in rw m (at_any at 0 i (map Elem bytes) e))
+reads_before at i n (c ∷ cs) bytes e h k =
+    let both = both_true (scalar c) (all_scalars cs) h in
+    let s = sequence_of c both.0 in
+    let j = i + length (encode c) in
+    let place : j ≡ suc i + length s.rest = omega (arith, ap length s.are) in
+    let more = encode_utf8_all cs ++ bytes in
+    ap (λ l. utf8_from at i [] 0 (map Elem l) e) (append_assoc (encode c) (encode_utf8_all cs) bytes)
+    ∙ ap (λ l. utf8_from at i [] 0 (map Elem (l ++ more)) e) s.are
+    ∙ rw s.begins (read_rest i (suc i) j s.ranges (first_bits s.first) s.rest more c e s.fits place)
+    ∙ ap (Then (stamp j j) (Out (Elem c))) (reads_before i j n cs bytes e both.1 (omega (arith, k, length-append (encode c) (encode_utf8_all cs))))
+
+lows : List Range → List ℕ
+lows ranges = map (λ r. r.low) ranges
+
+lows_in : (ranges : List Range) → AllSome ranges → InRanges ranges (lows ranges)
+unfolding lows
+lows_in [] h = tt
+lows_in (r ∷ ranges) h = (omega arith, h.0, lows_in ranges h.1)
+
+in_bounds : (r : Range) (b : ℕ) → is_in r b ≡ true → (r.low ≤ b) × (b ≤ r.high)
+in_bounds r b h = (let k = both_true (nat_le r.low b) (nat_le b r.high) h in (leb-true r.low b k.0, leb-true b r.high k.1))
+
+-- behind the front of a sequence, at k: the range of its next byte
+record IsWithin (at i k : ℕ) (given : List Range) (bits : ℕ) (front behind : List ℕ) (e : End) : Type 0 where
+  next : Range
+  ranges : List Range
+  now : ℕ
+  is : read_on i given bits (λ left now. utf8_from at i left now (map Elem (front ++ behind)) e) ≡ utf8_from at k (next ∷ ranges) now (map Elem behind) e
+  some : AllSome given → AllSome ranges
+  goes_on : (b : ℕ) → is_in next b ≡ true → AllSome given → InRanges given (front ++ b ∷ lows ranges)
+
+within : (at i k : ℕ) (given : List Range) (bits : ℕ) (front missing behind : List ℕ) (c : ℕ) (e : End) → Fits given bits (front ++ missing) c → 0 < length missing → k ≡ i + length front
+    → IsWithin at i k given bits front behind e
+within at i k [] bits [] [] behind c e f l h = absurd (omega arith)
+within at i k [] bits [] (b ∷ missing) behind c e f l h = absurd f
+within at i k [] bits (b ∷ front) missing behind c e f l h = absurd f
+within at i k (r ∷ given) bits [] missing behind c e f l h = record {
+  next = r;
+  ranges = given;
+  now = bits;
+  is = (let m : k ≡ i = omega (arith, h) in rw m);
+  some = λ s. s.1;
+  goes_on = λ b q s. (let w = in_bounds r b q in (w.0, w.1, lows_in given s.1));
+}
+within at i k (r ∷ given) bits (b ∷ front) missing behind c e f l h =
+    let w = within at (suc i) k given (more_bits bits b) front missing behind c e f.1 l (omega (arith, h)) in
+    record {
+      next = w.next;
+      ranges = w.ranges;
+      now = w.now;
+      is = rw f.0 w.is;
+      some = λ s. w.some s.1;
+      goes_on = λ x q s. (let u = in_bounds r b f.0 in (u.0, u.1, w.goes_on x q s.1));
+    }
+
+-- the sequence of which these are the front
+record IsFront (a : ℕ) (front missing : List ℕ) (c : ℕ) : Type 0 where
+  ranges : List Range
+  begins : following a ≡ Some ranges
+  fits : Fits ranges (first_bits a) (front ++ missing) c
+
+front_of : (a : ℕ) (front missing : List ℕ) (c : ℕ) → scalar c ≡ true → encode c ≡ a ∷ front ++ missing → IsFront a front missing c
+front_of a front missing c h k =
+    let s = sequence_of c h in
+    let j : s.first ∷ s.rest ≡ a ∷ (front ++ missing) = sym s.are ∙ k in
+    let same : s.first ≡ a = cc in
+    let rest : s.rest ≡ front ++ missing = cc in
+    record {
+      ranges = s.ranges;
+      begins = subst (λ b. following b ≡ Some s.ranges) same s.begins;
+      fits = subst (λ b. Fits s.ranges (first_bits b) (front ++ missing) c) same (subst (λ l. Fits s.ranges (first_bits s.first) l c) rest s.fits);
+    }
+
+-- it ends the run, where at bytes stand before the sequence
+abbrev stops : ℕ → ℕ → ℕ → Run
+stops at need net = Ends (stamp need net) (Halts (Stop (bad_text (as_count at))))
+
+pub utf8_unfinished : (cs bytes : List ℕ) → all_scalars cs ≡ true → 0 < length bytes → IsUnfinished bytes
+    → utf8 (bytes_of cs ++ map Elem bytes) Ended ≡ refused_behind cs (stamp (length (encode_utf8_all cs) + length bytes + 1) (length (encode_utf8_all cs) + length bytes))
+utf8_unfinished cs [] h l u = absurd (omega arith)
+utf8_unfinished cs (a ∷ front) h l u =
+    let n = length (encode_utf8_all cs) in
+    let k = n + suc (length front) in
+    let f = front_of a front u.missing u.character u.is_scalar u.front in
+    let w = within n (suc n) k f.ranges (first_bits a) front u.missing [] u.character Ended f.fits u.some (omega arith) in
+    let last : suc k ≡ k + 1 = omega arith in
+    ap (λ l. utf8_from 0 0 [] 0 l Ended) (sym (map-append (λ x. Elem x) (encode_utf8_all cs) (a ∷ front)))
+    ∙ reads_before 0 0 n cs (a ∷ front) Ended h (omega arith)
+    ∙ ap (characters_out 0 cs) (ap (λ l. utf8_from 0 n [] 0 (map Elem l) Ended) (sym (append-nil (a ∷ front))) ∙ rw f.begins w.is ∙ ap (λ j. stops n j k) last)
+
+-- a byte that begins no character
+begins_none : (b n : ℕ) (o : Option (List Range)) (next : List Range → ℕ → Run) → BeginNone (b ∷ []) → following b ≡ o → read_byte n (suc n) o (first_bits b) next ≡ stops n (suc n) (suc n)
+begins_none b n None next h e = refl
+begins_none b n (Some ranges) next h e =
+    let row = row_of b ranges e in
+    let c = row.whole (lows ranges) (lows_in ranges row.some) in
+    absurd (h c.character (lows ranges) c.is_scalar c.are)
+
+-- a byte that goes on in no character
+goes_on_none : (a : ℕ) (front : List ℕ) (given ranges : List Range) (next : Range) (b n k bits : ℕ) (goes : List Range → ℕ → Run) (t : Bool) → BeginNone (a ∷ front ++ b ∷ []) → following a ≡ Some given
+    → ((b : ℕ) → is_in next b ≡ true → AllSome given → InRanges given (front ++ b ∷ lows ranges)) → is_in next b ≡ t
+    → read_byte n (suc k) (if t then Some ranges else None) bits goes ≡ stops n (suc k) (suc k)
+goes_on_none a front given ranges next b n k bits goes false h e g q = refl
+goes_on_none a front given ranges next b n k bits goes true h e g q =
+    let row = row_of a given e in
+    let c = row.whole (front ++ b ∷ lows ranges) (g b q row.some) in
+    absurd (h c.character (lows ranges) c.is_scalar (c.are ∙ ap (λ l. a ∷ l) (sym (append_assoc front (b ∷ []) (lows ranges)))))
+
+bad_core : (n : ℕ) (bytes : List ℕ) (b : ℕ) (more : List ℕ) (e : End) → IsUnfinished bytes → BeginNone (bytes ++ b ∷ [])
+    → utf8_from 0 n [] 0 (map Elem (bytes ++ b ∷ more)) e ≡ stops n (n + length bytes + 1) (n + length bytes + 1)
+bad_core n [] b more e u h =
+    let last : suc n ≡ n + length {A = ℕ} [] + 1 = omega arith in
+    begins_none b n (following b) _ h refl ∙ ap (λ j. stops n j j) last
+bad_core n (a ∷ front) b more e u h =
+    let k = n + suc (length front) in
+    let f = front_of a front u.missing u.character u.is_scalar u.front in
+    let w = within n (suc n) k f.ranges (first_bits a) front u.missing (b ∷ more) u.character e f.fits u.some (omega arith) in
+    let last : suc k ≡ k + 1 = omega arith in
+    let read : utf8_from 0 n [] 0 (map Elem (a ∷ front ++ b ∷ more)) e ≡ utf8_from n k (w.next ∷ w.ranges) w.now (map Elem (b ∷ more)) e = rw f.begins w.is in
+    read ∙ goes_on_none a front f.ranges w.ranges w.next b n k _ _ (is_in w.next b) h f.begins w.goes_on refl ∙ ap (λ j. stops n j j) last
+
+pub utf8_bad : (cs bytes : List ℕ) (b : ℕ) (more : List ℕ) (e : End) → all_scalars cs ≡ true → IsUnfinished bytes → BeginNone (bytes ++ b ∷ [])
+    → utf8 (bytes_of cs ++ map Elem (bytes ++ b ∷ more)) e ≡ refused_behind cs (stamp (length (encode_utf8_all cs) + length bytes + 1) (length (encode_utf8_all cs) + length bytes + 1))
+utf8_bad cs bytes b more e h u n =
+    let size = length (encode_utf8_all cs) in
+    ap (λ l. utf8_from 0 0 [] 0 l e) (sym (map-append (λ x. Elem x) (encode_utf8_all cs) (bytes ++ b ∷ more)))
+    ∙ reads_before 0 0 size cs (bytes ++ b ∷ more) e h (omega arith)
+    ∙ ap (characters_out 0 cs) (bad_core size bytes b more e u n)
 
 -- ---- `utf8Lenient`
 
