@@ -14,7 +14,7 @@ pub record PieceAt : Type 0 where
 abbrev pub comes_at : ℕ → List Item → PieceAt
 comes_at at held = record { at = at; held = held }
 
--- The whole pieces of a list before which so many elements stand, each at its last element: the k-th is n elements from k * n on.
+-- The whole pieces of a list before which so many elements stand, each at its last element: the k-th is n elements from k * n on. Of 0 elements, which no script asks for, there is none.
 abbrev pub whole_pieces : ℕ → ℕ → List Item → List PieceAt
 whole_pieces n before xs = map (λ k. comes_at (before + (k + 1) * n) (take n (drop (k * n) xs))) (range_with_len 0 (length xs / n))
 
@@ -36,7 +36,7 @@ abbrev pub line_pieces : ℕ → ℕ → List Item → List PieceAt
 line_pieces n before [] = comes_at (before + 1) [] ∷ []
 line_pieces n before (x ∷ xs) = all_pieces n before (x ∷ xs)
 
--- of what stands between separators; what stands behind the last one is a line only where it is not empty
+-- of what stands between separators, which is one part at least; what stands behind the last one is a line only where it is not empty
 abbrev pub pieces_of_lines : ℕ → ℕ → List (List Item) → List PieceAt
 pieces_of_lines n before [] = []
 pieces_of_lines n before (last ∷ []) = all_pieces n before last
