@@ -2,11 +2,11 @@ pub mod Canonical
 pub mod CanonicalText
 pub mod CanonicalWords
 pub mod Grammar
+pub mod Keywords
 pub mod Lexemes
 pub mod Limits
 pub mod Literals
 pub mod Refusals
-pub mod Reserved
 pub mod Rows
 pub mod Spelling
 pub mod Tokens

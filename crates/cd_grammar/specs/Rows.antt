@@ -19,7 +19,7 @@ use Rattle.cd_elem.specs.declared.token.Token.{Token}
 use Rattle.cd_elem.specs.declared.token.Token.TheVariants as token
 use Rattle.cd_elem.specs.Base16.{hex_value}
 use Rattle.cd_grammar.specs.Literals.{literal_value}
-use Rattle.cd_grammar.specs.Reserved.{reserved}
+use Rattle.cd_grammar.specs.Keywords.{reserved}
 use Rattle.cd_grammar.specs.Tokens.{whole_token}
 
 -- signs

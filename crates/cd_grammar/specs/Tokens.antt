@@ -9,7 +9,7 @@ use Rattle.cd_elem.specs.declared.token.Sign.TheVariants as sign
 use Rattle.cd_elem.specs.declared.token.Token.{Token}
 use Rattle.cd_elem.specs.declared.token.Token.TheVariants as token
 use Rattle.cd_grammar.specs.Literals.{literal_value}
-use Rattle.cd_grammar.specs.Reserved.{reserved}
+use Rattle.cd_grammar.specs.Keywords.{reserved}
 
 abbrev pub one_sign : ℕ → Option Sign
 one_sign c =

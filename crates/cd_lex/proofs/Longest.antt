@@ -9,7 +9,7 @@ use Rattle.cd_elem.specs.declared.token.Token.TheVariants as token
 use Rattle.cd_elem.specs.declared.token.Sign.{Sign}
 use Rattle.cd_elem.specs.declared.token.Sign.TheVariants as sign
 use Rattle.cd_grammar.specs.Literals.{literal_value}
-use Rattle.cd_grammar.specs.Reserved.{reserved}
+use Rattle.cd_grammar.specs.Keywords.{reserved}
 use Rattle.cd_grammar.specs.Tokens as x
 use Rattle.cd_lex.specs.Quotes.{literal_from, plain, literal_found, literal_token}
 use Rattle.cd_lex.proofs.Closing.{ScanOk, inside_ok}

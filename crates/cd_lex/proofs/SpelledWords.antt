@@ -1,4 +1,4 @@
--- The reserved words and the signs are read as they are written.
+-- The reserved words and the signs are read as they are written. One case is named in each lemma, so that the wildcard stands for each of the others.
 use Rattle.std.proofs.Common.{◌≡◌, Some, refl}
 use Rattle.cd_elem.specs.declared.script.Join.{Join}
 use Rattle.cd_elem.specs.declared.script.Join.TheVariants as join
@@ -45,106 +45,59 @@ pub record IsWritten (t : Token) : Type 0 where
 
 opening_is : (w : Opening) → IsWritten (token.Word (keyword.Opening w))
 opening_is opening.Let = record { whole = refl }
-opening_is opening.Feed = record { whole = refl }
-opening_is opening.Close = record { whole = refl }
-opening_is opening.Hold = record { whole = refl }
-opening_is opening.Release = record { whole = refl }
+opening_is _ = record { whole = refl }
 
 section_is : (w : Section) → IsWritten (token.Word (keyword.Section w))
 section_is section.Exactly = record { whole = refl }
-section_is section.ExactlyE = record { whole = refl }
+section_is _ = record { whole = refl }
 
 zip_is : (w : Zip) → IsWritten (token.Word (keyword.Zip w))
 zip_is zip.Source = record { whole = refl }
-zip_is zip.Sink = record { whole = refl }
-zip_is zip.Conduit = record { whole = refl }
+zip_is _ = record { whole = refl }
 
 plain_word_is : (w : PlainWord) → IsWritten (token.Word (keyword.Plain w))
 plain_word_is plain.PassE = record { whole = refl }
-plain_word_is plain.HeadE = record { whole = refl }
-plain_word_is plain.PeekE = record { whole = refl }
-plain_word_is plain.LastE = record { whole = refl }
-plain_word_is plain.LengthE = record { whole = refl }
-plain_word_is plain.SumE = record { whole = refl }
-plain_word_is plain.NullE = record { whole = refl }
-plain_word_is plain.SinkNull = record { whole = refl }
-plain_word_is plain.Pass = record { whole = refl }
-plain_word_is plain.Head = record { whole = refl }
-plain_word_is plain.Peek = record { whole = refl }
-plain_word_is plain.Last = record { whole = refl }
-plain_word_is plain.Length = record { whole = refl }
-plain_word_is plain.Null = record { whole = refl }
-plain_word_is plain.Flat = record { whole = refl }
-plain_word_is plain.Unlines = record { whole = refl }
-plain_word_is plain.Utf8 = record { whole = refl }
-plain_word_is plain.Utf8Lenient = record { whole = refl }
-plain_word_is plain.Utf8Encode = record { whole = refl }
-plain_word_is plain.HexEncode = record { whole = refl }
-plain_word_is plain.HexDecode = record { whole = refl }
-plain_word_is plain.Base64Encode = record { whole = refl }
-plain_word_is plain.Base64Decode = record { whole = refl }
-plain_word_is plain.Stdin = record { whole = refl }
-plain_word_is plain.Stdout = record { whole = refl }
+plain_word_is _ = record { whole = refl }
 
 counted_word_is : (w : CountedWord) → IsWritten (token.Word (keyword.Counted w))
 counted_word_is counted.TakeE = record { whole = refl }
-counted_word_is counted.RepeatE = record { whole = refl }
-counted_word_is counted.DropE = record { whole = refl }
-counted_word_is counted.CollectE = record { whole = refl }
-counted_word_is counted.Take = record { whole = refl }
-counted_word_is counted.Repeat = record { whole = refl }
-counted_word_is counted.Drop = record { whole = refl }
-counted_word_is counted.Collect = record { whole = refl }
-counted_word_is counted.Lines = record { whole = refl }
-counted_word_is counted.Exact = record { whole = refl }
-counted_word_is counted.ChunksOf = record { whole = refl }
+counted_word_is _ = record { whole = refl }
 
 classed_word_is : (w : ClassedWord) → IsWritten (token.Word (keyword.Classed w))
 classed_word_is classed.TakeWhileE = record { whole = refl }
-classed_word_is classed.FilterE = record { whole = refl }
-classed_word_is classed.DropWhileE = record { whole = refl }
-classed_word_is classed.AllE = record { whole = refl }
-classed_word_is classed.AnyE = record { whole = refl }
+classed_word_is _ = record { whole = refl }
 
 tested_word_is : (w : TestedWord) → IsWritten (token.Word (keyword.Tested w))
 tested_word_is tested.TakeWhile = record { whole = refl }
-tested_word_is tested.Filter = record { whole = refl }
-tested_word_is tested.DropWhile = record { whole = refl }
+tested_word_is _ = record { whole = refl }
 
 literal_word_is : (w : LiteralWord) → IsWritten (token.Word (keyword.Literal w))
 literal_word_is literal.Intersperse = record { whole = refl }
-literal_word_is literal.Bytes = record { whole = refl }
-literal_word_is literal.Text = record { whole = refl }
+literal_word_is _ = record { whole = refl }
 
 file_word_is : (w : FileWord) → IsWritten (token.Word (keyword.File w))
 file_word_is file.SourceFile = record { whole = refl }
-file_word_is file.SinkFile = record { whole = refl }
+file_word_is _ = record { whole = refl }
 
 list_word_is : (w : ListWord) → IsWritten (token.Word (keyword.List w))
 list_word_is list.Blocks = record { whole = refl }
-list_word_is list.Texts = record { whole = refl }
+list_word_is _ = record { whole = refl }
 
 plain_class_is : (w : PlainClass) → IsWritten (token.Word (keyword.Class w))
 plain_class_is class.Digit = record { whole = refl }
-plain_class_is class.Upper = record { whole = refl }
-plain_class_is class.Lower = record { whole = refl }
-plain_class_is class.Alpha = record { whole = refl }
-plain_class_is class.Alnum = record { whole = refl }
-plain_class_is class.Hexdigit = record { whole = refl }
-plain_class_is class.Space = record { whole = refl }
-plain_class_is class.Newline = record { whole = refl }
+plain_class_is _ = record { whole = refl }
 
 end_test_is : (w : EndTest) → IsWritten (token.Word (keyword.EndTest w))
 end_test_is end_test.Begins = record { whole = refl }
-end_test_is end_test.Ends = record { whole = refl }
+end_test_is _ = record { whole = refl }
 
 number_map_is : (w : NumberMap) → IsWritten (token.Word (keyword.NumberMap w))
 number_map_is number_map.Xor = record { whole = refl }
-number_map_is number_map.Add = record { whole = refl }
+number_map_is _ = record { whole = refl }
 
 end_map_is : (w : EndMap) → IsWritten (token.Word (keyword.EndMap w))
 end_map_is end_map.Prefix = record { whole = refl }
-end_map_is end_map.Suffix = record { whole = refl }
+end_map_is _ = record { whole = refl }
 
 pub word_is : (k : Keyword) → IsWritten (token.Word k)
 word_is (keyword.Opening w) = opening_is w
@@ -161,42 +114,12 @@ word_is (keyword.Class w) = plain_class_is w
 word_is (keyword.EndTest w) = end_test_is w
 word_is (keyword.NumberMap w) = number_map_is w
 word_is (keyword.EndMap w) = end_map_is w
-word_is keyword.Run = record { whole = refl }
-word_is keyword.Seal = record { whole = refl }
-word_is keyword.Mark = record { whole = refl }
-word_is keyword.Not = record { whole = refl }
-word_is keyword.Version = record { whole = refl }
-word_is keyword.Scope = record { whole = refl }
-word_is keyword.LineE = record { whole = refl }
-word_is keyword.Tee = record { whole = refl }
-word_is keyword.MapE = record { whole = refl }
-word_is keyword.Map = record { whole = refl }
-word_is keyword.Split = record { whole = refl }
-word_is keyword.Replicate = record { whole = refl }
-word_is keyword.Range = record { whole = refl }
-word_is keyword.Is = record { whole = refl }
-word_is keyword.Below = record { whole = refl }
-word_is keyword.Empty = record { whole = refl }
-word_is keyword.Shorter = record { whole = refl }
-word_is keyword.Rot13 = record { whole = refl }
-word_is keyword.Reverse = record { whole = refl }
+word_is _ = record { whole = refl }
 
 operator_is : (j : Join) → IsWritten (token.Sign (sign.Operator j))
 operator_is join.Plain = record { whole = refl }
-operator_is join.Keep = record { whole = refl }
-operator_is join.Return = record { whole = refl }
-operator_is join.Both = record { whole = refl }
-operator_is join.Up = record { whole = refl }
-operator_is join.Asked = record { whole = refl }
+operator_is _ = record { whole = refl }
 
 pub sign_is : (s : Sign) → IsWritten (token.Sign s)
 sign_is (sign.Operator j) = operator_is j
-sign_is sign.OpenBrace = record { whole = refl }
-sign_is sign.CloseBrace = record { whole = refl }
-sign_is sign.OpenParen = record { whole = refl }
-sign_is sign.CloseParen = record { whole = refl }
-sign_is sign.OpenSquare = record { whole = refl }
-sign_is sign.CloseSquare = record { whole = refl }
-sign_is sign.Comma = record { whole = refl }
-sign_is sign.Semicolon = record { whole = refl }
-sign_is sign.Equals = record { whole = refl }
+sign_is _ = record { whole = refl }

@@ -10,7 +10,7 @@ use Rattle.cd_elem.specs.declared.token.Sign.TheVariants as sign
 use Rattle.cd_elem.specs.declared.token.Token.{Token}
 use Rattle.cd_elem.specs.declared.token.Token.TheVariants as token
 use Rattle.cd_grammar.specs.Literals.{literal_value, in_front, no_more}
-use Rattle.cd_grammar.specs.Reserved.{reserved}
+use Rattle.cd_grammar.specs.Keywords.{reserved}
 use Rattle.cd_grammar.specs.Tokens as x
 use Rattle.cd_lex.specs.declared.literal.LiteralState.{LiteralState}
 use Rattle.cd_lex.specs.declared.literal.LiteralState.TheVariants.{Plain}

@@ -1,4 +1,3 @@
 pub mod NextLexeme
 pub mod Quotes
 pub mod LongestToken
-pub mod ReservedWords

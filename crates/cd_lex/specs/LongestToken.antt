@@ -8,7 +8,7 @@ use Rattle.cd_elem.specs.declared.token.Sign.{Sign}
 use Rattle.cd_elem.specs.declared.token.Sign.TheVariants as sign
 use Rattle.cd_elem.specs.declared.token.Token.{Token}
 use Rattle.cd_elem.specs.declared.token.Token.TheVariants as token
-use Rattle.cd_grammar.specs.Reserved.{reserved}
+use Rattle.cd_grammar.specs.Keywords.{reserved}
 use Rattle.cd_grammar.specs.Tokens.{one_sign, bar_sign, name_or_keyword, number_value, IsLongest, HasNoToken}
 use Rattle.cd_lex.specs.Quotes.{literal_found}
 

@@ -1,6 +1,6 @@
-// How the reserved words are written.
+// The reserved words, and how each is spelled.
 ghost use Rattle.std.specs.Prelude.{◌≡◌};
-ghost use Rattle.cd_grammar.specs.Spelling as spec;
+ghost use Rattle.cd_grammar.specs.Keywords as spec;
 
 use cd_elem::{
     ClassedWord, CountedWord, EndMap, EndTest, FileWord, Keyword, ListWord, LiteralWord, NumberMap,
@@ -218,4 +218,119 @@ pub fn spelled_word(word: Keyword) -> &'static str
         Keyword::Rot13 => "rot13",
         Keyword::Reverse => "reverse",
     }
+}
+
+static KEYWORDS: &[Keyword] = &[
+    Keyword::Run,
+    Keyword::Opening(Opening::Let),
+    Keyword::Seal,
+    Keyword::Opening(Opening::Feed),
+    Keyword::Opening(Opening::Close),
+    Keyword::Opening(Opening::Hold),
+    Keyword::Mark,
+    Keyword::Opening(Opening::Release),
+    Keyword::Not,
+    Keyword::Version,
+    Keyword::Scope,
+    Keyword::Section(Section::Exactly),
+    Keyword::Section(Section::ExactlyE),
+    Keyword::LineE,
+    Keyword::Tee,
+    Keyword::Zip(Zip::Source),
+    Keyword::Zip(Zip::Sink),
+    Keyword::Zip(Zip::Conduit),
+    Keyword::Plain(PlainWord::PassE),
+    Keyword::Plain(PlainWord::HeadE),
+    Keyword::Plain(PlainWord::PeekE),
+    Keyword::Plain(PlainWord::LastE),
+    Keyword::Plain(PlainWord::LengthE),
+    Keyword::Plain(PlainWord::SumE),
+    Keyword::Plain(PlainWord::NullE),
+    Keyword::Plain(PlainWord::SinkNull),
+    Keyword::Plain(PlainWord::Pass),
+    Keyword::Plain(PlainWord::Head),
+    Keyword::Plain(PlainWord::Peek),
+    Keyword::Plain(PlainWord::Last),
+    Keyword::Plain(PlainWord::Length),
+    Keyword::Plain(PlainWord::Null),
+    Keyword::Plain(PlainWord::Flat),
+    Keyword::Plain(PlainWord::Unlines),
+    Keyword::Plain(PlainWord::Utf8),
+    Keyword::Plain(PlainWord::Utf8Lenient),
+    Keyword::Plain(PlainWord::Utf8Encode),
+    Keyword::Plain(PlainWord::HexEncode),
+    Keyword::Plain(PlainWord::HexDecode),
+    Keyword::Plain(PlainWord::Base64Encode),
+    Keyword::Plain(PlainWord::Base64Decode),
+    Keyword::Plain(PlainWord::Stdin),
+    Keyword::Plain(PlainWord::Stdout),
+    Keyword::Counted(CountedWord::TakeE),
+    Keyword::Counted(CountedWord::RepeatE),
+    Keyword::Counted(CountedWord::DropE),
+    Keyword::Counted(CountedWord::CollectE),
+    Keyword::Counted(CountedWord::Take),
+    Keyword::Counted(CountedWord::Repeat),
+    Keyword::Counted(CountedWord::Drop),
+    Keyword::Counted(CountedWord::Collect),
+    Keyword::Counted(CountedWord::Lines),
+    Keyword::Counted(CountedWord::Exact),
+    Keyword::Counted(CountedWord::ChunksOf),
+    Keyword::Classed(ClassedWord::TakeWhileE),
+    Keyword::Classed(ClassedWord::FilterE),
+    Keyword::Classed(ClassedWord::DropWhileE),
+    Keyword::Classed(ClassedWord::AllE),
+    Keyword::Classed(ClassedWord::AnyE),
+    Keyword::Tested(TestedWord::TakeWhile),
+    Keyword::Tested(TestedWord::Filter),
+    Keyword::Tested(TestedWord::DropWhile),
+    Keyword::Literal(LiteralWord::Intersperse),
+    Keyword::Literal(LiteralWord::Bytes),
+    Keyword::Literal(LiteralWord::Text),
+    Keyword::File(FileWord::SourceFile),
+    Keyword::File(FileWord::SinkFile),
+    Keyword::List(ListWord::Blocks),
+    Keyword::List(ListWord::Texts),
+    Keyword::MapE,
+    Keyword::Map,
+    Keyword::Split,
+    Keyword::Replicate,
+    Keyword::Range,
+    Keyword::Class(PlainClass::Digit),
+    Keyword::Class(PlainClass::Upper),
+    Keyword::Class(PlainClass::Lower),
+    Keyword::Class(PlainClass::Alpha),
+    Keyword::Class(PlainClass::Alnum),
+    Keyword::Class(PlainClass::Hexdigit),
+    Keyword::Class(PlainClass::Space),
+    Keyword::Class(PlainClass::Newline),
+    Keyword::Is,
+    Keyword::Below,
+    Keyword::Empty,
+    Keyword::EndTest(EndTest::Begins),
+    Keyword::EndTest(EndTest::Ends),
+    Keyword::Shorter,
+    Keyword::NumberMap(NumberMap::Xor),
+    Keyword::NumberMap(NumberMap::Add),
+    Keyword::Rot13,
+    Keyword::EndMap(EndMap::Prefix),
+    Keyword::EndMap(EndMap::Suffix),
+    Keyword::Reverse,
+];
+
+fn first_spelled(name: &[u8], words: &[Keyword]) -> Option<Keyword>
+    ensures { result ≡ spec.first_spelled name.now words.now }
+{
+    for word in words {
+        if name == spelled_word(*word).as_bytes() {
+            return Some(*word);
+        }
+    }
+    None
+}
+
+/// The reserved word that an identifier is, if it is one.
+pub fn reserved(name: &[u8]) -> Option<Keyword>
+    ensures { result ≡ spec.reserved name.now }
+{
+    first_spelled(name, KEYWORDS)
 }

@@ -5,7 +5,6 @@ mod keywords;
 mod lexing;
 mod literal;
 mod longest_token;
-mod reserved;
 mod spelling;
 
 pub use lexing::{Lexed, lex};

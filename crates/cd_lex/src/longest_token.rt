@@ -4,11 +4,11 @@ ghost use Rattle.std.specs.Char.{is_ascii_alphanumeric, is_ascii_digit};
 ghost use Rattle.std.specs.List.{prefix_len};
 ghost use Rattle.std.specs.Str.{IsAscii};
 ghost use Rattle.cd_lex.specs.LongestToken as scanner;
-ghost use Rattle.cd_grammar.specs.Reserved as words;
+ghost use Rattle.cd_grammar.specs.Keywords as words;
 ghost use Rattle.cd_grammar.specs.Tokens as spec;
 
+use crate::keywords::reserved;
 use crate::literal::read_literal;
-use crate::reserved::reserved;
 use cd_elem::{Join, Name, NoMemory, Sign, Token};
 use std::alloc::Global;
 

@@ -12,7 +12,7 @@ use Rattle.cd_grammar.specs.Canonical.{is_name, is_named}
 use Rattle.cd_grammar.specs.Lexemes.{Lexes, is_zero}
 use Rattle.cd_grammar.specs.Literals.{literal_value}
 use Rattle.cd_grammar.specs.Refusals.{tokens}
-use Rattle.cd_grammar.specs.Reserved.{reserved}
+use Rattle.cd_grammar.specs.Keywords.{reserved}
 use Rattle.cd_grammar.specs.Tokens.{whole_token, whole_sign, name_or_keyword, number_value, text_token, sign_token, is_empty}
 
 abbrev pub has_name : Token → Bool

@@ -51,7 +51,7 @@ use Rattle.cd_grammar.specs.CanonicalWords.{canonical_class_name, canonical_clas
 use Rattle.cd_grammar.specs.Grammar.{not_tokens, operator}
 use Rattle.cd_grammar.specs.Limits.{Bounds, every_number, bounds_behind, brackets_with, counted_bounds, keyword_bounds, is_outside}
 use Rattle.cd_grammar.specs.Literals.{literal_value}
-use Rattle.cd_grammar.specs.Reserved.{reserved}
+use Rattle.cd_grammar.specs.Keywords.{reserved}
 use Rattle.cd_grammar.specs.Tokens.{whole_token, whole_sign, name_or_keyword, number_value, text_token, sign_token, is_empty}
 use Rattle.cd_lex.proofs.Utf8.{both}
 use Rattle.cd_lex.proofs.Written.{CanBeWritten, AllWritten, written}
