@@ -52,23 +52,12 @@ map_cut by Sort.Block h = absurd h
 map_cut by Sort.Text h = absurd h
 
 pub plain_cut : (s : WordState) (k listed : Sort) → IsPlain s → StateFits s k listed → IsTrue (is_cut k)
-plain_cut state.Pass k listed p f = f
-plain_cut (state.Take n) k listed p f = f
-plain_cut (state.TakeWhile c) k listed p f = f
-plain_cut (state.Filter c) k listed p f = f
 plain_cut (state.Map by) k listed p f = map_cut by k f
 plain_cut (state.Repeat n) k listed p f = f.0
-plain_cut (state.Drop n) k listed p f = f
-plain_cut (state.DropWhile c) k listed p f = f
-plain_cut state.Head k listed p f = f
-plain_cut state.Peek k listed p f = f
-plain_cut (state.Last o) k listed p f = f
-plain_cut (state.Length n) k listed p f = f
 plain_cut (state.Sum n) k listed p f = rw f refl
-plain_cut (state.All c a) k listed p f = f
-plain_cut state.Null k listed p f = f
 plain_cut (state.Collect n) k listed p f = absurd p
 plain_cut state.SinkNull k listed p f = absurd p
+plain_cut _ k listed p f = f
 
 pub some_len : (s : WordState) (k : Sort) (len : ℕ) → IsPlain s → StateFits s k k → HasSize k len → 0 < len
 some_len s k len p f h = h.some (plain_cut s k k p f)

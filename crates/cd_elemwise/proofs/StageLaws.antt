@@ -78,44 +78,15 @@ elems_split n numbers = sym (elems_append (take n numbers) (drop n numbers)) ∙
 -- ---- what it holds
 
 pub carries_one : (s : WordState) → carries s ≤ 1
-carries_one state.Pass = omega arith
-carries_one (state.Take n) = omega arith
-carries_one (state.TakeWhile c) = omega arith
-carries_one (state.Filter c) = omega arith
-carries_one (state.Map by) = omega arith
-carries_one (state.Repeat n) = omega arith
-carries_one (state.Drop n) = omega arith
-carries_one (state.DropWhile c) = omega arith
-carries_one state.Head = omega arith
-carries_one state.Peek = omega arith
 carries_one (state.Last None) = omega arith
 carries_one (state.Last (Some single)) = omega arith
-carries_one (state.Length n) = omega arith
-carries_one (state.Sum n) = omega arith
-carries_one (state.All c a) = omega arith
-carries_one state.Null = omega arith
-carries_one (state.Collect n) = omega arith
-carries_one state.SinkNull = omega arith
+carries_one _ = omega arith
 
 carries_most : (s : WordState) → carries s ≤ may_carry s
-carries_most state.Pass = omega arith
-carries_most (state.Take n) = omega arith
-carries_most (state.TakeWhile c) = omega arith
-carries_most (state.Filter c) = omega arith
-carries_most (state.Map by) = omega arith
-carries_most (state.Repeat n) = omega arith
-carries_most (state.Drop n) = omega arith
-carries_most (state.DropWhile c) = omega arith
-carries_most state.Head = omega arith
-carries_most state.Peek = omega arith
 carries_most (state.Last None) = omega arith
 carries_most (state.Last (Some single)) = omega arith
-carries_most (state.Length n) = omega arith
-carries_most (state.Sum n) = omega arith
-carries_most (state.All c a) = omega arith
-carries_most state.Null = omega arith
 carries_most (state.Collect n) = omega arith
-carries_most state.SinkNull = omega arith
+carries_most _ = omega arith
 
 pub within_held : (e : ElemStage) → KeepsBounds e → IsHeld (seen_stage e)
 within_held e h = let c = carries_most e.state in let w = given_weight e.sort e.keep h.1 in let h0 = h.0 in omega (arith, c, w, h0)
@@ -212,23 +183,9 @@ sort_of_kind Sort.Block = refl
 sort_of_kind Sort.Text = refl
 
 pub plain_state : (s : WordState) → ((n : ℕ) → s ≡ state.Collect n → ⊥) → (s ≡ state.SinkNull → ⊥) → IsPlain s
-plain_state state.Pass g h = tt
-plain_state (state.Take n) g h = tt
-plain_state (state.TakeWhile c) g h = tt
-plain_state (state.Filter c) g h = tt
-plain_state (state.Map by) g h = tt
-plain_state (state.Repeat n) g h = tt
-plain_state (state.Drop n) g h = tt
-plain_state (state.DropWhile c) g h = tt
-plain_state state.Head g h = tt
-plain_state state.Peek g h = tt
-plain_state (state.Last o) g h = tt
-plain_state (state.Length n) g h = tt
-plain_state (state.Sum n) g h = tt
-plain_state (state.All c a) g h = tt
-plain_state state.Null g h = tt
 plain_state (state.Collect n) g h = absurd (g n refl)
 plain_state state.SinkNull g h = absurd (h refl)
+plain_state _ g h = tt
 
 -- what it carries then is of the same word
 pub read_from : (e : ElemStage) (st : WordState) (l : _) (c : Chunk) (m : Move) (f : ElemStage) → e.told ≡ false → gives_of st e.sort ≡ gives_of e.state e.sort
@@ -261,20 +218,7 @@ asks_ready k (state.Drop zero) l h = cc
 asks_ready k (state.Drop (suc n)) l h = refl
 asks_ready k (state.Collect zero) l h = cc
 asks_ready k (state.Collect (suc n)) l h = refl
-asks_ready k state.Pass l h = refl
-asks_ready k (state.TakeWhile c) l h = refl
-asks_ready k (state.Filter c) l h = refl
-asks_ready k (state.Map by) l h = refl
-asks_ready k (state.Repeat n) l h = refl
-asks_ready k (state.DropWhile c) l h = refl
-asks_ready k state.Head l h = refl
-asks_ready k state.Peek l h = refl
-asks_ready k (state.Last o) l h = refl
-asks_ready k (state.Length n) l h = refl
-asks_ready k (state.Sum n) l h = refl
-asks_ready k (state.All c a) l h = refl
-asks_ready k state.Null l h = refl
-asks_ready k state.SinkNull l h = refl
+asks_ready k _ l h = refl
 
 ready_value : (k : Sort) (s : WordState) (l : List ℕ) → asks_of s ≡ false → state_ready k s l ≡ Some (state_value k s l)
 ready_value k (state.Take zero) l h = refl
@@ -283,20 +227,7 @@ ready_value k (state.Drop zero) l h = refl
 ready_value k (state.Drop (suc n)) l h = cc
 ready_value k (state.Collect zero) l h = refl
 ready_value k (state.Collect (suc n)) l h = cc
-ready_value k state.Pass l h = cc
-ready_value k (state.TakeWhile c) l h = cc
-ready_value k (state.Filter c) l h = cc
-ready_value k (state.Map by) l h = cc
-ready_value k (state.Repeat n) l h = cc
-ready_value k (state.DropWhile c) l h = cc
-ready_value k state.Head l h = cc
-ready_value k state.Peek l h = cc
-ready_value k (state.Last o) l h = cc
-ready_value k (state.Length n) l h = cc
-ready_value k (state.Sum n) l h = cc
-ready_value k (state.All c a) l h = cc
-ready_value k state.Null l h = cc
-ready_value k state.SinkNull l h = cc
+ready_value k _ l h = cc
 
 pub ask_stage : (e : ElemStage) → e.told ≡ false → e.keep ≡ None → asks_of e.state ≡ true → Went e Need (record e { stand = Wait })
 ask_stage e t k h =

@@ -173,41 +173,14 @@ first_run w k h site seen xs e = scan_fresh (word_scan k) (Doing (first_state w)
 -- ---- at first
 
 pub first_fits : (w : ElemWord) (k listed : Sort) → HasType w k → (IsTrue (is_cut k) → listed ≡ k) → StateFits (first_state w) k listed
-first_fits ElemWord.PassE k listed h l = h
-first_fits (ElemWord.TakeE n) k listed h l = h
 first_fits (ElemWord.TakeWhileE c) k listed h l = h.0
 first_fits (ElemWord.FilterE c) k listed h l = h.0
-first_fits (ElemWord.MapE by) k listed h l = h
-first_fits (ElemWord.RepeatE n) k listed h l = h
-first_fits (ElemWord.DropE n) k listed h l = h
 first_fits (ElemWord.DropWhileE c) k listed h l = h.0
-first_fits ElemWord.HeadE k listed h l = h
-first_fits ElemWord.PeekE k listed h l = h
-first_fits ElemWord.LastE k listed h l = h
-first_fits ElemWord.LengthE k listed h l = h
-first_fits ElemWord.SumE k listed h l = h
 first_fits (ElemWord.AllE c) k listed h l = h.0
 first_fits (ElemWord.AnyE c) k listed h l = h.0
-first_fits ElemWord.NullE k listed h l = h
 first_fits (ElemWord.CollectE n) k listed h l = (h.0, l h.0)
-first_fits ElemWord.SinkNull k listed h l = tt
+first_fits _ k listed h l = h
 
 pub first_within : (w : ElemWord) → may_carry (first_state w) ≡ bound_of w
-first_within ElemWord.PassE = refl
-first_within (ElemWord.TakeE n) = refl
-first_within (ElemWord.TakeWhileE c) = refl
-first_within (ElemWord.FilterE c) = refl
-first_within (ElemWord.MapE by) = refl
-first_within (ElemWord.RepeatE n) = refl
-first_within (ElemWord.DropE n) = refl
-first_within (ElemWord.DropWhileE c) = refl
-first_within ElemWord.HeadE = refl
-first_within ElemWord.PeekE = refl
 first_within ElemWord.LastE = refl
-first_within ElemWord.LengthE = refl
-first_within ElemWord.SumE = refl
-first_within (ElemWord.AllE c) = refl
-first_within (ElemWord.AnyE c) = refl
-first_within ElemWord.NullE = refl
-first_within (ElemWord.CollectE n) = refl
-first_within ElemWord.SinkNull = refl
+first_within _ = refl

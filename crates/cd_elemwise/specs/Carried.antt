@@ -93,24 +93,17 @@ ClassFits c k = IsTrue (is_cut k) × NameFits c.what k
 
 -- the word has a type on a stream of this sort, and its numbers are in their ranges
 abbrev pub HasType : ElemWord → Sort → Type 0
-HasType ElemWord.PassE k = IsTrue (is_cut k)
-HasType (ElemWord.TakeE n) k = IsTrue (is_cut k)
 HasType (ElemWord.TakeWhileE c) k = ClassFits c k
 HasType (ElemWord.FilterE c) k = ClassFits c k
 HasType (ElemWord.MapE by) k = MapFits by k
 HasType (ElemWord.RepeatE n) k = IsTrue (is_cut k) × (n ≤ 4096)
-HasType (ElemWord.DropE n) k = IsTrue (is_cut k)
 HasType (ElemWord.DropWhileE c) k = ClassFits c k
-HasType ElemWord.HeadE k = IsTrue (is_cut k)
-HasType ElemWord.PeekE k = IsTrue (is_cut k)
-HasType ElemWord.LastE k = IsTrue (is_cut k)
-HasType ElemWord.LengthE k = IsTrue (is_cut k)
 HasType ElemWord.SumE k = k ≡ Sort.Bytes
 HasType (ElemWord.AllE c) k = ClassFits c k
 HasType (ElemWord.AnyE c) k = ClassFits c k
-HasType ElemWord.NullE k = IsTrue (is_cut k)
 HasType (ElemWord.CollectE n) k = IsTrue (is_cut k) × (n ≤ 16777216)
 HasType ElemWord.SinkNull k = Unit {0}
+HasType _ k = IsTrue (is_cut k)
 
 -- the bound of the word
 abbrev pub bound_of : ElemWord → ℕ
@@ -176,20 +169,7 @@ state_ready k (state.Drop zero) l = Some Value.Unit
 state_ready k (state.Drop (suc n)) l = None
 state_ready k (state.Collect zero) l = Some (list_value k l)
 state_ready k (state.Collect (suc n)) l = None
-state_ready k state.Pass l = None
-state_ready k (state.TakeWhile c) l = None
-state_ready k (state.Filter c) l = None
-state_ready k (state.Map by) l = None
-state_ready k (state.Repeat n) l = None
-state_ready k (state.DropWhile c) l = None
-state_ready k state.Head l = None
-state_ready k state.Peek l = None
-state_ready k (state.Last o) l = None
-state_ready k (state.Length n) l = None
-state_ready k (state.Sum n) l = None
-state_ready k (state.All c b) l = None
-state_ready k state.Null l = None
-state_ready k state.SinkNull l = None
+state_ready k _ l = None
 
 -- it goes on where the element passes, and else ends so
 abbrev pub or_back : Bool → List Act → Carried → Reply Carried

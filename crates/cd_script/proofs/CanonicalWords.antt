@@ -2,6 +2,7 @@
 use Rattle.std.proofs.Common.{◌≡◌, ℕ, true, if◌then◌else◌, List, [], ◌∷◌, ◌++◌, Some, refl, ap, sym, ◌∙◌, append_assoc, append-nil}
 use Rattle.std.specs.Char.{encode_utf8}
 use Rattle.std.proofs.lemmas.Str.{chars_past_char, chars-nil, IsUtf8-encode}
+use Rattle.cd_elem.specs.declared.token.PlainWord.{PlainWord}
 use Rattle.cd_elem.specs.declared.token.PlainWord.TheVariants as plain
 use Rattle.cd_elem.specs.declared.token.CountedWord.TheVariants as counted
 use Rattle.cd_elem.specs.declared.token.ClassedWord.{ClassedWord}
@@ -158,15 +159,13 @@ list_word_form w ss =
       stands_for = ap (trees.list_word w) d.stands_for;
     }
 
+-- the plain word that is these tokens
+abbrev plain_of : List Token → PlainWord
+plain_of (token.Word (keyword.Plain w) ∷ ts) = w
+plain_of _ = plain.PassE
+
+-- Words with something behind them. The wildcard stands for each plain word.
 elem_form : (w : ElemWord) → ranges.elem w ≡ true → OfWord (word.Elem w)
-elem_form elem.PassE h = exactly (g.Plain plain.PassE)
-elem_form elem.HeadE h = exactly (g.Plain plain.HeadE)
-elem_form elem.PeekE h = exactly (g.Plain plain.PeekE)
-elem_form elem.LastE h = exactly (g.Plain plain.LastE)
-elem_form elem.LengthE h = exactly (g.Plain plain.LengthE)
-elem_form elem.SumE h = exactly (g.Plain plain.SumE)
-elem_form elem.NullE h = exactly (g.Plain plain.NullE)
-elem_form elem.SinkNull h = exactly (g.Plain plain.SinkNull)
 elem_form (elem.TakeE n) h = exactly (g.Counted counted.TakeE (Some n))
 elem_form (elem.RepeatE n) h = exactly (g.Counted counted.RepeatE (Some n))
 elem_form (elem.DropE n) h = exactly (g.Counted counted.DropE (Some n))
@@ -183,14 +182,9 @@ elem_form (elem.MapE m) h =
       spelled = ap (λ ts. token.Word keyword.MapE ∷ ts) d.spelled;
       stands_for = ap trees.element_map_word d.stands_for;
     }
+elem_form w h = exactly (g.Plain (plain_of (spec.canonical_elem w)))
 
 piece_form : (w : PieceWord) → OfWord (word.Piece w)
-piece_form piece.Pass = exactly (g.Plain plain.Pass)
-piece_form piece.Head = exactly (g.Plain plain.Head)
-piece_form piece.Peek = exactly (g.Plain plain.Peek)
-piece_form piece.Last = exactly (g.Plain plain.Last)
-piece_form piece.Length = exactly (g.Plain plain.Length)
-piece_form piece.Null = exactly (g.Plain plain.Null)
 piece_form (piece.Take n) = exactly (g.Counted counted.Take (Some n))
 piece_form (piece.Repeat n) = exactly (g.Counted counted.Repeat (Some n))
 piece_form (piece.Drop n) = exactly (g.Counted counted.Drop (Some n))
@@ -206,6 +200,7 @@ piece_form (piece.Map m) =
       stands_for = ap trees.piece_map_word d.stands_for;
     }
 piece_form (piece.Intersperse s) = exactly (g.Literal literal.Intersperse s)
+piece_form w = exactly (g.Plain (plain_of (spec.canonical_piece w)))
 
 split_form : (w : SplitWord) → ranges.split w ≡ true → OfWord (word.Split w)
 unfolding character
@@ -213,19 +208,15 @@ split_form (split.Lines n) h = exactly (g.Counted counted.Lines (Some n))
 split_form (split.Exact n) h = exactly (g.Counted counted.Exact (Some n))
 split_form (split.ChunksOf n) h = exactly (g.Counted counted.ChunksOf (Some n))
 split_form (split.Split c n) h = exactly (g.Split (character c h) (Some n))
-split_form split.Flat h = exactly (g.Plain plain.Flat)
-split_form split.Unlines h = exactly (g.Plain plain.Unlines)
+split_form w h = exactly (g.Plain (plain_of (spec.canonical_split w)))
 
 text_form : (w : TextWord) → OfWord (word.Text w)
 text_form text.Utf8 = exactly (g.Plain plain.Utf8)
-text_form text.Utf8Lenient = exactly (g.Plain plain.Utf8Lenient)
-text_form text.Utf8Encode = exactly (g.Plain plain.Utf8Encode)
+text_form w = exactly (g.Plain (plain_of (spec.canonical_text w)))
 
 base_form : (w : BaseWord) → OfWord (word.Base w)
 base_form base.HexEncode = exactly (g.Plain plain.HexEncode)
-base_form base.HexDecode = exactly (g.Plain plain.HexDecode)
-base_form base.Base64Encode = exactly (g.Plain plain.Base64Encode)
-base_form base.Base64Decode = exactly (g.Plain plain.Base64Decode)
+base_form w = exactly (g.Plain (plain_of (spec.canonical_base w)))
 
 -- a name of a file that is not empty
 pub file_form : (s : List ℕ) → is_file s ≡ true → (f : g.FileName) × (g.file_name_text f ≡ s)

@@ -111,16 +111,7 @@ Below b = nat_lt b.most (2 ^ 64) ≡ true
 
 counted_below : (w : CountedWord) → Below (counted_bounds w)
 counted_below counted.TakeE = refl
-counted_below counted.RepeatE = refl
-counted_below counted.DropE = refl
-counted_below counted.CollectE = refl
-counted_below counted.Take = refl
-counted_below counted.Repeat = refl
-counted_below counted.Drop = refl
-counted_below counted.Collect = refl
-counted_below counted.Lines = refl
-counted_below counted.Exact = refl
-counted_below counted.ChunksOf = refl
+counted_below _ = refl
 
 keyword_below : (k : Keyword) → Below (keyword_bounds k)
 keyword_below (keyword.Counted w) = counted_below w

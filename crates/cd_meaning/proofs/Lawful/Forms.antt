@@ -1,5 +1,5 @@
 -- Operators and forms of lawful pipes are lawful.
-use Rattle.std.proofs.Common.{Bool, ◌≡◌, ℕ, suc, ◌+◌, List, ◌++◌, length, None, refl, ap, ◌∙◌, subst, arith, ◌≤◌, ◌<◌}
+use Rattle.std.proofs.Common.{Bool, ◌≡◌, ℕ, suc, ◌+◌, List, [], ◌++◌, length, None, refl, ap, ◌∙◌, subst, arith, ◌≤◌, ◌<◌}
 use Rattle.std.proofs.lemmas.List.{length-append}
 use Rattle.cd_meaning.specs.Stream.{Sort, Flow}
 use Rattle.cd_meaning.specs.Run.{Component}
@@ -25,8 +25,8 @@ use Rattle.cd_meaning.proofs.Begins.Forms.{sequence_goes_on, marked_goes_on, fus
 use Rattle.cd_meaning.proofs.Begins.Zips.{fuse_keep_goes_on, zip_source_goes_on, zip_sink_goes_on, tee_goes_on}
 
 -- a word with no site
-pub plain_is_lawful : (gives : Flow → Flow) (c : Sort → Component) → ((k : Sort) → IsRun (c k)) → IsLawful (plain gives c)
-plain_is_lawful gives c k = record { runs = λ f s seen. k (sort_of f); local = λ f s seen seen' w. refl; goes_on = λ sites seen seen' g f s. goes_on_refl sites (c (sort_of f)) }
+pub plain_is_lawful : (gives : Flow → Flow) (run : Flow → Component) → ((f : Flow) → IsRun (run f)) → IsLawful (record { places = []; gives = gives; run = λ f s seen. run f })
+plain_is_lawful gives run k = record { runs = λ f s seen. k f; local = λ f s seen seen' w. refl; goes_on = λ sites seen seen' g f s. goes_on_refl sites (run f) }
 
 -- a word with a site, and what is known of that
 pub at_site_is_lawful : (place : Place) (gives : Flow → Flow) (c : ℕ → Seen → Component) → ((s : ℕ) (seen : Seen) → IsRun (c s seen))

@@ -1,4 +1,4 @@
--- Each word is lawful.
+-- Each word is lawful. Those on elements and on pieces with something behind them are named; the wildcard stands for each plain one, whose run is proved in `plain_runs`.
 use Rattle.std.proofs.Common.{replicate, refl, ap}
 use Rattle.cd_elem.specs.declared.word.Word.{Word}
 use Rattle.cd_elem.specs.declared.word.ElemWord.{ElemWord}
@@ -10,11 +10,11 @@ use Rattle.cd_elem.specs.declared.word.SourceWord.{SourceWord}
 use Rattle.cd_elem.specs.declared.word.SinkWord.{SinkWord}
 use Rattle.cd_meaning.specs.Stream.{Sort}
 use Rattle.cd_meaning.specs.Classes.{of_class, of_element, of_test, of_piece}
-use Rattle.cd_meaning.specs.Sorts.{value_of, list_of, elements_at, piece_at, pieces_at}
+use Rattle.cd_meaning.specs.Sorts.{sort_of, list_of, elements_at, piece_at, pieces_at}
 use Rattle.cd_meaning.specs.Sources.{source_file, stdin, decimals, sink_file, stdout}
 use Rattle.cd_meaning.specs.WordMeanings.{element_word, piece_word, split_word, text_word, base_word, source_word, sink_word, word_meaning}
 use Rattle.cd_meaning.specs.Lawful.{IsLawful}
-use Rattle.cd_meaning.proofs.Runs.Elements.{passed_is_run, filtered_is_run, mapped_is_run, repeated_is_run, ignored_is_run, taken_is_run, dropped_is_run, collected_is_run, taken_while_is_run, dropped_while_is_run, latest_is_run, counted_is_run, summed_is_run, head_is_run, peek_is_run, none_is_run, all_is_run, any_is_run}
+use Rattle.cd_meaning.proofs.Runs.Elements.{filtered_is_run, mapped_is_run, repeated_is_run, taken_is_run, dropped_is_run, collected_is_run, taken_while_is_run, dropped_while_is_run, all_is_run, any_is_run, plain_runs}
 use Rattle.cd_meaning.proofs.Runs.Pieces.{interspersed_is_run}
 use Rattle.cd_meaning.proofs.Runs.Splitters.{exact_is_run, chunks_of_is_run, split_is_run, lines_is_run, flat_is_run, unlines_is_run}
 use Rattle.cd_meaning.proofs.Runs.Texts.{utf8_is_run, utf8_lenient_is_run, utf8_encode_is_run}
@@ -24,41 +24,29 @@ use Rattle.cd_meaning.proofs.Begins.Laws.{goes_on_refl, source_file_goes_on, std
 use Rattle.cd_meaning.proofs.Lawful.Forms.{plain_is_lawful, at_site_is_lawful}
 
 element_word_is_lawful : (w : ElemWord) → IsLawful (element_word w)
-element_word_is_lawful ElemWord.PassE = plain_is_lawful _ _ (λ k. passed_is_run)
-element_word_is_lawful (ElemWord.TakeE n) = plain_is_lawful _ _ (λ k. taken_is_run n)
-element_word_is_lawful (ElemWord.TakeWhileE p) = plain_is_lawful _ _ (λ k. taken_while_is_run (of_class p))
-element_word_is_lawful (ElemWord.FilterE p) = plain_is_lawful _ _ (λ k. filtered_is_run (of_class p))
-element_word_is_lawful (ElemWord.MapE m) = plain_is_lawful _ _ (λ k. mapped_is_run (of_element m))
-element_word_is_lawful (ElemWord.RepeatE n) = plain_is_lawful _ _ (λ k. repeated_is_run n)
-element_word_is_lawful (ElemWord.DropE n) = plain_is_lawful _ _ (λ k. dropped_is_run n)
-element_word_is_lawful (ElemWord.DropWhileE p) = plain_is_lawful _ _ (λ k. dropped_while_is_run (of_class p))
-element_word_is_lawful ElemWord.HeadE = plain_is_lawful _ _ (λ k. head_is_run (value_of k))
-element_word_is_lawful ElemWord.PeekE = plain_is_lawful _ _ (λ k. peek_is_run (value_of k))
-element_word_is_lawful ElemWord.LastE = plain_is_lawful _ _ (λ k. latest_is_run (value_of k))
-element_word_is_lawful ElemWord.LengthE = plain_is_lawful _ _ (λ k. counted_is_run)
-element_word_is_lawful ElemWord.SumE = plain_is_lawful _ _ (λ k. summed_is_run)
-element_word_is_lawful (ElemWord.AllE p) = plain_is_lawful _ _ (λ k. all_is_run (of_class p))
-element_word_is_lawful (ElemWord.AnyE p) = plain_is_lawful _ _ (λ k. any_is_run (of_class p))
-element_word_is_lawful ElemWord.NullE = plain_is_lawful _ _ (λ k. none_is_run)
-element_word_is_lawful (ElemWord.CollectE n) = plain_is_lawful _ _ (λ k. collected_is_run (list_of k) n)
-element_word_is_lawful ElemWord.SinkNull = plain_is_lawful _ _ (λ k. ignored_is_run)
+element_word_is_lawful (ElemWord.TakeE n) = plain_is_lawful _ _ (λ f. taken_is_run n)
+element_word_is_lawful (ElemWord.TakeWhileE p) = plain_is_lawful _ _ (λ f. taken_while_is_run (of_class p))
+element_word_is_lawful (ElemWord.FilterE p) = plain_is_lawful _ _ (λ f. filtered_is_run (of_class p))
+element_word_is_lawful (ElemWord.MapE m) = plain_is_lawful _ _ (λ f. mapped_is_run (of_element m))
+element_word_is_lawful (ElemWord.RepeatE n) = plain_is_lawful _ _ (λ f. repeated_is_run n)
+element_word_is_lawful (ElemWord.DropE n) = plain_is_lawful _ _ (λ f. dropped_is_run n)
+element_word_is_lawful (ElemWord.DropWhileE p) = plain_is_lawful _ _ (λ f. dropped_while_is_run (of_class p))
+element_word_is_lawful (ElemWord.AllE p) = plain_is_lawful _ _ (λ f. all_is_run (of_class p))
+element_word_is_lawful (ElemWord.AnyE p) = plain_is_lawful _ _ (λ f. any_is_run (of_class p))
+element_word_is_lawful (ElemWord.CollectE n) = plain_is_lawful _ _ (λ f. collected_is_run (list_of (sort_of f)) n)
+element_word_is_lawful _ = plain_is_lawful _ _ (λ f. search plain_runs)
 
 piece_word_is_lawful : (w : PieceWord) → IsLawful (piece_word w)
-piece_word_is_lawful PieceWord.Pass = plain_is_lawful _ _ (λ k. passed_is_run)
-piece_word_is_lawful (PieceWord.Take n) = plain_is_lawful _ _ (λ k. taken_is_run n)
-piece_word_is_lawful (PieceWord.TakeWhile p) = plain_is_lawful _ _ (λ k. taken_while_is_run (of_test p k))
-piece_word_is_lawful (PieceWord.Filter p) = plain_is_lawful _ _ (λ k. filtered_is_run (of_test p k))
-piece_word_is_lawful (PieceWord.Repeat n) = plain_is_lawful _ _ (λ k. repeated_is_run n)
-piece_word_is_lawful (PieceWord.Map m) = plain_is_lawful _ _ (λ k. mapped_is_run (of_piece m k))
-piece_word_is_lawful (PieceWord.Intersperse literal) = plain_is_lawful _ _ (λ k. interspersed_is_run (piece_at k literal))
-piece_word_is_lawful (PieceWord.Drop n) = plain_is_lawful _ _ (λ k. dropped_is_run n)
-piece_word_is_lawful (PieceWord.DropWhile p) = plain_is_lawful _ _ (λ k. dropped_while_is_run (of_test p k))
-piece_word_is_lawful PieceWord.Head = plain_is_lawful _ _ (λ k. head_is_run (value_of k))
-piece_word_is_lawful PieceWord.Peek = plain_is_lawful _ _ (λ k. peek_is_run (value_of k))
-piece_word_is_lawful PieceWord.Last = plain_is_lawful _ _ (λ k. latest_is_run (value_of k))
-piece_word_is_lawful PieceWord.Length = plain_is_lawful _ _ (λ k. counted_is_run)
-piece_word_is_lawful PieceWord.Null = plain_is_lawful _ _ (λ k. none_is_run)
-piece_word_is_lawful (PieceWord.Collect n) = plain_is_lawful _ _ (λ k. collected_is_run (list_of k) n)
+piece_word_is_lawful (PieceWord.Take n) = plain_is_lawful _ _ (λ f. taken_is_run n)
+piece_word_is_lawful (PieceWord.TakeWhile p) = plain_is_lawful _ _ (λ f. taken_while_is_run (of_test p (sort_of f)))
+piece_word_is_lawful (PieceWord.Filter p) = plain_is_lawful _ _ (λ f. filtered_is_run (of_test p (sort_of f)))
+piece_word_is_lawful (PieceWord.Repeat n) = plain_is_lawful _ _ (λ f. repeated_is_run n)
+piece_word_is_lawful (PieceWord.Map m) = plain_is_lawful _ _ (λ f. mapped_is_run (of_piece m (sort_of f)))
+piece_word_is_lawful (PieceWord.Intersperse literal) = plain_is_lawful _ _ (λ f. interspersed_is_run (piece_at (sort_of f) literal))
+piece_word_is_lawful (PieceWord.Drop n) = plain_is_lawful _ _ (λ f. dropped_is_run n)
+piece_word_is_lawful (PieceWord.DropWhile p) = plain_is_lawful _ _ (λ f. dropped_while_is_run (of_test p (sort_of f)))
+piece_word_is_lawful (PieceWord.Collect n) = plain_is_lawful _ _ (λ f. collected_is_run (list_of (sort_of f)) n)
+piece_word_is_lawful _ = plain_is_lawful _ _ (λ f. search plain_runs)
 
 split_word_is_lawful : (w : SplitWord) → IsLawful (split_word w)
 split_word_is_lawful (SplitWord.Lines n) = plain_is_lawful _ _ (λ k. lines_is_run n)

@@ -274,3 +274,6 @@ one_line_is_scan =
 
 pub one_line_is_run : IsRun one_line
 one_line_is_run = is_run_as _ one_line_scan None one_line_is_scan
+
+-- of words with nothing behind them
+pub ruleset plain_runs = (passed_is_run, latest_is_run, counted_is_run, summed_is_run, head_is_run, peek_is_run, none_is_run, ignored_is_run)
