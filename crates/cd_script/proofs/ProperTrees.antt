@@ -61,11 +61,11 @@ literal_word _ s = refl
 
 file_word : (w : FileWord) (f : g.FileName) → is_proper_word (tree.file_word w (g.file_name_text f)) ≡ true
 file_word file.SourceFile f = refl
-file_word file.SinkFile f = refl
+file_word _ f = refl
 
 list_word : (w : ListWord) (ss : List (List ℕ)) → is_proper_word (tree.list_word w ss) ≡ true
 list_word list.Blocks ss = refl
-list_word list.Texts ss = refl
+list_word _ ss = refl
 
 word_form : (w : g.WordForm) → is_proper_word (g.word_tree w) ≡ true
 word_form (g.Plain w) = plain_word w

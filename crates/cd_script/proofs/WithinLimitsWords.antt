@@ -109,7 +109,7 @@ class_form (g.Below n) = with_number keyword.Below n
 
 end_test-tokens : (t : EndTest) (s : List ℕ) → canonical.canonical_test_name (tree.test_of_end t s) ≡ token.Word (keyword.EndTest t) ∷ token.Text s ∷ []
 end_test-tokens end_test.Begins s = refl
-end_test-tokens end_test.Ends s = refl
+end_test-tokens _ s = refl
 
 test_form : (t : g.TestForm) → Anywhere (canonical.canonical_test_name (g.test_name t)) (g.test_tokens t)
 test_form g.Empty = alone keyword.Empty
@@ -194,11 +194,11 @@ literal_word-tokens _ s = refl
 
 file_word-tokens : (w : FileWord) (s : List ℕ) → canonical.canonical_word (tree.file_word w s) ≡ token.Word (keyword.File w) ∷ token.Text s ∷ []
 file_word-tokens file.SourceFile s = refl
-file_word-tokens file.SinkFile s = refl
+file_word-tokens _ s = refl
 
 list_word-tokens : (w : ListWord) (ss : List (List ℕ)) → canonical.canonical_word (tree.list_word w ss) ≡ token.Word (keyword.List w) ∷ canonical.canonical_list ss
 list_word-tokens list.Blocks ss = refl
-list_word-tokens list.Texts ss = refl
+list_word-tokens _ ss = refl
 
 pub word_form : (w : g.WordForm) → Anywhere (canonical.canonical_word (g.word_tree w)) (g.word_tokens w)
 word_form (g.Plain w) = same_as _ _ _ (plain_word-tokens w) (alone (keyword.Plain w))
