@@ -1,5 +1,6 @@
 // The rows of the element words. Classes and numbers are such that a word reads as long as it can.
 ghost use Rattle.std.specs.Prelude.{◌<◌, ◌≤◌, length};
+ghost use Rattle.cd_elem.specs.Limits.{chunk_limit};
 
 use crate::row::element_word;
 use cd_elem::{ByteMap, Class, ClassName, ElemWord};
@@ -30,7 +31,7 @@ const LETTERS: Class = Class {
 /// The words that give elements.
 fn givers<R: Print + Clock>(rt: &R, alloc: Global, bytes: &[u8]) -> anyhow::Result<()>
     requires some { 0 < length bytes.now }
-    requires most { length bytes.now ≤ 65536 }
+    requires most { length bytes.now ≤ chunk_limit }
 {
     element_word(rt, alloc, bytes, "passE", ElemWord::PassE)?;
     element_word(rt, alloc, bytes, "takeE", ElemWord::TakeE(MANY))?;
@@ -43,7 +44,7 @@ fn givers<R: Print + Clock>(rt: &R, alloc: Global, bytes: &[u8]) -> anyhow::Resu
 /// The words that skip elements, and those that keep some.
 fn takers<R: Print + Clock>(rt: &R, alloc: Global, bytes: &[u8]) -> anyhow::Result<()>
     requires some { 0 < length bytes.now }
-    requires most { length bytes.now ≤ 65536 }
+    requires most { length bytes.now ≤ chunk_limit }
 {
     element_word(rt, alloc, bytes, "dropE", ElemWord::DropE(MANY))?;
     element_word(rt, alloc, bytes, "dropWhileE", ElemWord::DropWhileE(ALL))?;
@@ -56,7 +57,7 @@ fn takers<R: Print + Clock>(rt: &R, alloc: Global, bytes: &[u8]) -> anyhow::Resu
 /// The words that end with a number or a truth value, and the one that ends with nothing.
 fn folds<R: Print + Clock>(rt: &R, alloc: Global, bytes: &[u8]) -> anyhow::Result<()>
     requires some { 0 < length bytes.now }
-    requires most { length bytes.now ≤ 65536 }
+    requires most { length bytes.now ≤ chunk_limit }
 {
     element_word(rt, alloc, bytes, "lengthE", ElemWord::LengthE)?;
     element_word(rt, alloc, bytes, "sumE", ElemWord::SumE)?;
@@ -69,7 +70,7 @@ fn folds<R: Print + Clock>(rt: &R, alloc: Global, bytes: &[u8]) -> anyhow::Resul
 /// A row for each element word.
 pub fn element_words<R: Print + Clock>(rt: &R, alloc: Global, bytes: &[u8]) -> anyhow::Result<()>
     requires some { 0 < length bytes.now }
-    requires most { length bytes.now ≤ 65536 }
+    requires most { length bytes.now ≤ chunk_limit }
 {
     givers(rt, alloc, bytes)?;
     takers(rt, alloc, bytes)?;

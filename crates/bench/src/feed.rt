@@ -1,5 +1,6 @@
 // The work that is timed.
 ghost use Rattle.std.specs.Prelude.{◌≡◌, ◌<◌, ◌≤◌, ◌+◌, ◌*◌, ◌%◌, ◌^◌, IfOk, MatchOption, Some, length, sum};
+ghost use Rattle.cd_elem.specs.Limits.{chunk_limit};
 ghost use Rattle.cd_elem.specs.declared.kind.Sort.TheVariants as sort;
 ghost use Rattle.cd_step.specs.Parts.{Answers, Wait};
 ghost use Rattle.cd_elemwise.specs.Carried.{HasType, kind_of};
@@ -48,7 +49,7 @@ pub fn summed(bytes: &[u8], rounds: u32) -> u64
 /// The bytes copied into a chunk, so many times: how many were copied.
 pub fn copied(alloc: Global, bytes: &[u8], rounds: u32) -> Result<u64, NoMemory>
     requires some { 0 < length bytes.now }
-    requires most { length bytes.now ≤ 65536 }
+    requires most { length bytes.now ≤ chunk_limit }
     ensures { IfOk result (λ count. count ≡ rounds * length bytes.now) }
 {
     let mut count = 0_u64;
@@ -102,7 +103,7 @@ fn started(alloc: Global, word: ElemWord, given: &mut u64) -> Result<Option<Elem
 pub fn fed(alloc: Global, word: ElemWord, bytes: &[u8], rounds: u32) -> Result<u64, NoMemory>
     requires typed { HasType word sort.Bytes }
     requires some { 0 < length bytes.now }
-    requires most { length bytes.now ≤ 65536 }
+    requires most { length bytes.now ≤ chunk_limit }
 {
     let mut given = 0;
     let mut waiting = None;

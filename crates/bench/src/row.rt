@@ -1,6 +1,7 @@
 // Rows of the table: a name, the bytes a second, and what came of the work, so that none of it can be left out.
 ghost use Rattle.std.specs.Prelude.{◌≡◌, ◌<◌, ◌≤◌, ◌*◌, ◌/◌, max, length};
 ghost use Rattle.std.specs.Duration.{as_nanos};
+ghost use Rattle.cd_elem.specs.Limits.{chunk_limit};
 ghost use Rattle.cd_elem.specs.declared.kind.Sort.TheVariants as sort;
 ghost use Rattle.cd_elemwise.specs.Carried.{HasType};
 
@@ -27,7 +28,7 @@ fn print_row<R: Print>(
     taken: Duration,
     answer: u64,
 ) -> anyhow::Result<()>
-    requires { len ≤ 65536 }
+    requires { len ≤ chunk_limit }
 {
     let bytes = len as u64 * u64::from(ROUNDS);
     println!(rt; "{name} {} {answer}", rate(bytes, taken))?;
@@ -36,7 +37,7 @@ fn print_row<R: Print>(
 
 /// The row of a plain pass.
 pub fn plain_pass<R: Print + Clock>(rt: &R, bytes: &[u8]) -> anyhow::Result<()>
-    requires { length bytes.now ≤ 65536 }
+    requires { length bytes.now ≤ chunk_limit }
 {
     let start = Instant::now(rt)?;
     let sum = summed(bytes, ROUNDS);
@@ -46,7 +47,7 @@ pub fn plain_pass<R: Print + Clock>(rt: &R, bytes: &[u8]) -> anyhow::Result<()>
 /// The row of making chunks alone, which stands in each word's time.
 pub fn copying<R: Print + Clock>(rt: &R, alloc: Global, bytes: &[u8]) -> anyhow::Result<()>
     requires some { 0 < length bytes.now }
-    requires most { length bytes.now ≤ 65536 }
+    requires most { length bytes.now ≤ chunk_limit }
 {
     let start = Instant::now(rt)?;
     let count = copied(alloc, bytes, ROUNDS)?;
@@ -63,7 +64,7 @@ pub fn element_word<R: Print + Clock>(
 ) -> anyhow::Result<()>
     requires typed { HasType word sort.Bytes }
     requires some { 0 < length bytes.now }
-    requires most { length bytes.now ≤ 65536 }
+    requires most { length bytes.now ≤ chunk_limit }
 {
     let start = Instant::now(rt)?;
     let given = fed(alloc, word, bytes, ROUNDS)?;

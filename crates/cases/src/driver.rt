@@ -7,9 +7,11 @@ ghost use Rattle.cd_elemwise.specs.Stages.{seen_stage, stage_fits};
 use crate::error::CaseError;
 use crate::notation::{push_number, write_numbers};
 use cd_elem::{
-    ByteList, ByteMap, CharList, Chunk, Class, ClassName, ElemWord, Items, NumberList, Sort, Value,
+    ByteList, ByteMap, CHUNK_LIMIT, CharList, Chunk, Class, ClassName, ElemWord, Items, NumberList,
+    Sort, Value,
 };
 use cd_elemwise::{ElemStage, elem_stage};
+use cd_script::{COLLECT_LIMIT, REPEAT_LIMIT};
 use cd_step::{Input, Move, Stage};
 use std::alloc::Global;
 
@@ -153,7 +155,7 @@ fn char_list(alloc: Global, numbers: &[u32]) -> Result<CharList, CaseError>
 fn chunk_of(alloc: Global, sort: Sort, numbers: &[u32]) -> Result<Chunk, CaseError>
     ensures { IfOk result (λ chunk. IsChunk (kind_of sort) chunk) }
 {
-    if numbers.len() > 65_536 {
+    if numbers.len() > CHUNK_LIMIT {
         return Err(CaseError::Malformed("at most 65,536 elements"));
     }
     match sort {
@@ -259,9 +261,10 @@ fn has_type(word: ElemWord, sort: Sort) -> bool
         ElemWord::SumE => matches!(sort, Sort::Bytes),
         ElemWord::MapE(ByteMap::Rot13) => matches!(sort, Sort::Bytes | Sort::Chars),
         ElemWord::MapE(_) => matches!(sort, Sort::Bytes),
-        ElemWord::RepeatE(times) => matches!(sort, Sort::Bytes | Sort::Chars) && times <= 4096,
+        ElemWord::RepeatE(times) => matches!(sort, Sort::Bytes | Sort::Chars)
+            && times <= REPEAT_LIMIT,
         ElemWord::CollectE(count) => {
-            matches!(sort, Sort::Bytes | Sort::Chars) && count <= 16_777_216
+            matches!(sort, Sort::Bytes | Sort::Chars) && count <= COLLECT_LIMIT
         }
         _ => matches!(sort, Sort::Bytes | Sort::Chars),
     }

@@ -4,11 +4,8 @@ ghost use Rattle.std.specs.Prelude.{◌≤◌, length};
 use crate::error::CaseError;
 use crate::notation::{field, push_text, text_within};
 use cd_elem::LimitKind;
-use cd_script::{ScriptRefusal, parse, print};
+use cd_script::{ScriptRefusal, TEXT_LIMIT, parse, print};
 use std::alloc::Global;
-
-/// The most bytes that a script may have.
-const SCRIPT_MAX: usize = 65_536;
 
 fn limit_name(limit: LimitKind) -> &'static str {
     match limit {
@@ -35,7 +32,7 @@ fn write_refusal(lines: &mut String, refusal: ScriptRefusal) -> Result<(), CaseE
 
 /// The canonical text of a text that is a script.
 fn canonical(alloc: Global, text: &str) -> Result<String, ScriptRefusal>
-    requires { length text.now ≤ 65536 }
+    requires { length text.now ≤ TEXT_LIMIT }
 {
     let script = parse(alloc, text)?;
     let printed = print(alloc, &script);
@@ -45,7 +42,7 @@ fn canonical(alloc: Global, text: &str) -> Result<String, ScriptRefusal>
 
 /// Whether a canonical text has itself.
 fn is_its_own(alloc: Global, printed: &str) -> bool {
-    match text_within(printed.as_bytes(), SCRIPT_MAX) {
+    match text_within(printed.as_bytes(), TEXT_LIMIT) {
         Ok(text) => canonical(alloc, text).is_ok_and(|again| again.as_str() == printed),
         Err(_) => false,
     }
@@ -91,7 +88,7 @@ fn write_answer(
     text: &[u8],
     is_shown: bool,
 ) -> Result<(), CaseError> {
-    match canonical(alloc, text_within(text, SCRIPT_MAX)?) {
+    match canonical(alloc, text_within(text, TEXT_LIMIT)?) {
         Ok(printed) => write_script(alloc, lines, printed.as_str(), is_shown),
         Err(refusal) => write_refusal(lines, refusal),
     }

@@ -5,8 +5,8 @@
 use crate::driver::{Run, run_word};
 use crate::error::CaseError;
 use crate::notation::{field, numbers, push_number, text_within, write_numbers};
-use cd_elem::{ElemWord, Items, NumberList, Pipe, Script, Sort, Stmt, Word};
-use cd_script::parse;
+use cd_elem::{CHUNK_LIMIT, ElemWord, Items, NumberList, Pipe, Script, Sort, Stmt, Word};
+use cd_script::{TEXT_LIMIT, parse};
 use std::alloc::Global;
 
 /// An input in chunks or pieces.
@@ -40,7 +40,7 @@ fn word_in(script: &Script) -> Result<ElemWord, CaseError> {
 
 /// The word of a script of one word.
 fn word_of(alloc: Global, script: &[u8]) -> Result<ElemWord, CaseError> {
-    let Ok(script) = parse(alloc, text_within(script, 65_536)?) else {
+    let Ok(script) = parse(alloc, text_within(script, TEXT_LIMIT)?) else {
         return Err(CaseError::Malformed("a word"));
     };
     let word = word_in(&script);
@@ -172,7 +172,7 @@ fn write_sizes(
     asked: Question<'_>,
     list: &[u32],
 ) -> Result<(), CaseError> {
-    for (name, size) in [("by 1", 1), ("by 2", 2), ("whole", 65_536)] {
+    for (name, size) in [("by 1", 1), ("by 2", 2), ("whole", CHUNK_LIMIT)] {
         write!(lines, "= {name}: ")?;
         write_cut_run(alloc, lines, asked, list, Cut::Every(size), size == 1)?;
         lines.push_str("\n")?;

@@ -4,6 +4,7 @@ use Rattle.std.specs.Prelude.{OnOk}
 use Rattle.std.proofs.lemmas.List.{append-nil, take_all}
 use Rattle.std.proofs.lemmas.Bool.{cases_lt}
 use Rattle.std.proofs.lemmas.Bool.Decides.{nat_tests}
+use Rattle.cd_grammar.specs.Limits.{text_limit}
 use Rattle.cd_elem.specs.declared.script.Stmt.{Stmt}
 use Rattle.cd_world.specs.declared.event.Event.{Event}
 use Rattle.cd_world.specs.declared.world.WorldError.{WorldError}
@@ -18,7 +19,7 @@ use Rattle.cd_cli.specs.declared.cause.Cause.{Cause}
 use Rattle.cd_cli.specs.declared.cause.Cause.TheVariants.{Success, NotBuilt, OutsideFault, NoMemory as WithoutMemory}
 use Rattle.cd_cli.specs.Cause.{cause_of, script_cause, words_cause, HasOrigin}
 use Rattle.cd_cli.specs.Form.{NoForm}
-use Rattle.cd_cli.specs.Judge.{IsScriptOf, HasTree, HasNone, IsRefused, too_long, no_utf8, syntax, limit}
+use Rattle.cd_cli.specs.Judge.{read_limit, IsScriptOf, HasTree, HasNone, IsRefused, too_long, no_utf8, syntax, limit}
 use Rattle.cd_cli.specs.declared.arguments.Command.{Command}
 use Rattle.cd_cli.specs.declared.arguments.Command.TheVariants.{Run, Show}
 use Rattle.cd_cli.specs.declared.arguments.WordsRefusal.{WordsRefusal}
@@ -129,51 +130,51 @@ module _ (text : List ℕ) where
     none_sends cause f none = record { sent = []; output = sym (append-nil f.output); rest = refl; answer = sends_none cause none }
 
 -- what is judged is the whole text, for one of more bytes is too long, as its front is
-still_too_long : (text : List ℕ) (cause : Cause) → 65536 < length text → HasNone (take 65537 text) cause → HasNone text cause
+still_too_long : (text : List ℕ) (cause : Cause) → text_limit < length text → HasNone (take read_limit text) cause → HasNone text cause
 still_too_long text cause long none = record { why = why_long cause none.why; none = λ tree is. absurd (omega (arith, long, is.fit.few)) } where
-  front_long : 65536 < length (take 65537 text)
-  front_long = omega (arith, long, length-take 65537 text)
+  front_long : text_limit < length (take read_limit text)
+  front_long = omega (arith, long, length-take read_limit text)
 
-  why_long : (cause : Cause) → IsRefused (take 65537 text) cause → IsRefused text cause
+  why_long : (cause : Cause) → IsRefused (take read_limit text) cause → IsRefused text cause
   why_long _ (too_long h) = too_long long
   why_long _ (no_utf8 at few bad valid) = absurd (omega (arith, front_long, few))
   why_long _ (syntax at fit refused) = absurd (omega (arith, front_long, fit.few))
   why_long _ (limit which at fit refused) = absurd (omega (arith, front_long, fit.few))
 
-judged_whole : (SendsSo : List Stmt → Cause → List ℕ → Type 0) (text : List ℕ) (cause : Cause) (sent : List ℕ) → Sends SendsSo (take 65537 text) cause sent → Sends SendsSo text cause sent
-judged_whole SendsSo text cause sent sends = by_length (cases_lt 65536 (length text)) sends where
-  long_sends : (sent : List ℕ) → 65536 < length text → Sends SendsSo (take 65537 text) cause sent → Sends SendsSo text cause sent
+judged_whole : (SendsSo : List Stmt → Cause → List ℕ → Type 0) (text : List ℕ) (cause : Cause) (sent : List ℕ) → Sends SendsSo (take read_limit text) cause sent → Sends SendsSo text cause sent
+judged_whole SendsSo text cause sent sends = by_length (cases_lt text_limit (length text)) sends where
+  long_sends : (sent : List ℕ) → text_limit < length text → Sends SendsSo (take read_limit text) cause sent → Sends SendsSo text cause sent
   long_sends _ long (no_memory is) = no_memory is
   long_sends _ long (no_script none) = no_script (still_too_long text cause long none)
-  long_sends _ long (of_tree tree sent has sends) = absurd (omega (arith, long, length-take 65537 text, has.is.fit.few))
+  long_sends _ long (of_tree tree sent has sends) = absurd (omega (arith, long, length-take read_limit text, has.is.fit.few))
 
-  by_length : (65536 < length text) ⊎ (length text ≤ 65536) → Sends SendsSo (take 65537 text) cause sent → Sends SendsSo text cause sent
+  by_length : (text_limit < length text) ⊎ (length text ≤ text_limit) → Sends SendsSo (take read_limit text) cause sent → Sends SendsSo text cause sent
   by_length (inl long) s = long_sends sent long s
-  by_length (inr short) s = subst (λ (t : List ℕ). Sends SendsSo t cause sent) (take_all 65537 text (omega (arith, short))) s
+  by_length (inr short) s = subst (λ (t : List ℕ). Sends SendsSo t cause sent) (take_all read_limit text (omega (arith, short))) s
 
 -- ---- a script
 
 -- which is that of a command
 module _ (command : Command) (name : List ℕ) (named : name ≡ script_of command) where
   module _ {T : Type 0} (items : T → List ℕ) (t : T) (text : List ℕ) (cause : Cause) (is : text ≡ items t) where
-    pub script_sends : (f f1 f2 : Files) → ReadsFront {E = WorldError} name 65537 items (Ok t) f f1 → Sent (Sends (SendsFor command f1.contents) text cause) f1 f2
+    pub script_sends : (f f1 f2 : Files) → ReadsFront {E = WorldError} name read_limit items (Ok t) f f1 → Sent (Sends (SendsFor command f1.contents) text cause) f1 f2
         → Sent (SendsScript (SendsFor command f.contents) f.contents (script_of command) cause) f f2
     script_sends f f1 f2 reads sends = record {
       sent = sends.sent;
       output = sends.output ∙ ap (λ (o : List ℕ). o ++ sends.sent) reads.output;
       rest = keeps_on f f1 f2 reads.rest sends.rest;
       answer = read sends.sent (judged_whole (SendsFor command f.contents) (f.contents (script_of command)) cause sends.sent
-          (subst (λ (b : List ℕ). Sends (SendsFor command f.contents) b cause sends.sent) (is ∙ sym reads.front ∙ ap (λ (n : List ℕ). take 65537 (f.contents n)) named)
+          (subst (λ (b : List ℕ). Sends (SendsFor command f.contents) b cause sends.sent) (is ∙ sym reads.front ∙ ap (λ (n : List ℕ). take read_limit (f.contents n)) named)
           (subst (λ (c : List ℕ → List ℕ). Sends (SendsFor command c) text cause sends.sent) (contents_kept f f1 reads.rest) sends.answer)));
     }
 
-    pub script_logs : (l l1 l2 : List Event) → LogsRead name 65537 items (Ok t) l l1 → Logs (Judges (Does command) text) cause l1 l2
+    pub script_logs : (l l1 l2 : List Event) → LogsRead name read_limit items (Ok t) l l1 → Logs (Judges (Does command) text) cause l1 l2
         → Called (ReadsAndJudges (Does command) (script_of command) cause) l l2
     script_logs l l1 l2 reads judged = record {
       reading = reads.part;
       calls = judged.calls;
       log = judged.log ∙ ap (λ (l : List Event). l ++ judged.calls) reads.log ∙ append_assoc l reads.part judged.calls;
-      answer = read text reads.part judged.calls (subst (λ (n : List ℕ). ReadsWhole n 65537 text reads.part) named (subst (λ (b : List ℕ). ReadsWhole name 65537 b reads.part) (sym is) reads.whole)) judged.does;
+      answer = read text reads.part judged.calls (subst (λ (n : List ℕ). ReadsWhole n read_limit text reads.part) named (subst (λ (b : List ℕ). ReadsWhole name read_limit b reads.part) (sym is) reads.whole)) judged.does;
     }
 
   unread_cause : (e : WorldError) → IsUnread (script_cause e)
@@ -181,7 +182,7 @@ module _ (command : Command) (name : List ℕ) (named : name ≡ script_of comma
   unread_cause NoMemory = inr refl
 
   module _ {T : Type 0} (items : T → List ℕ) (e : WorldError) where
-    pub unread_sends : (f f1 : Files) → ReadsFront name 65537 items (Err e) f f1
+    pub unread_sends : (f f1 : Files) → ReadsFront name read_limit items (Err e) f f1
         → Sent (SendsScript (SendsFor command f.contents) f.contents (script_of command) (script_cause e)) f f1
     unread_sends f f1 reads = record {
       sent = [];
@@ -190,12 +191,12 @@ module _ (command : Command) (name : List ℕ) (named : name ≡ script_of comma
       answer = unread (unread_cause e);
     }
 
-    pub unread_logs : (l l1 : List Event) → LogsRead name 65537 items (Err e) l l1 → Called (ReadsAndJudges (Does command) (script_of command) (script_cause e)) l l1
+    pub unread_logs : (l l1 : List Event) → LogsRead name read_limit items (Err e) l l1 → Called (ReadsAndJudges (Does command) (script_of command) (script_cause e)) l l1
     unread_logs l l1 reads = record {
       reading = reads.part;
       calls = [];
       log = reads.log ∙ ap (λ (p : List Event). l ++ p) (sym (append-nil reads.part));
-      answer = unread e reads.part (subst (λ (n : List ℕ). TriesRead n 65537 e reads.part) named reads.tries) refl;
+      answer = unread e reads.part (subst (λ (n : List ℕ). TriesRead n read_limit e reads.part) named reads.tries) refl;
     }
 
 -- ---- the words

@@ -2,6 +2,7 @@
 use Rattle.std.proofs.Common.{◌≡◌, ◌⊎◌, inl, inr, ◌≤◌, ◌<◌, ℕ, List, length, Result, Ok, Err, refl, sym, subst, arith}
 use Rattle.std.specs.Prelude.{IsUtf8, IsErrAnd}
 use Rattle.std.specs.Str.{IsValidUpTo}
+use Rattle.cd_grammar.specs.Limits.{text_limit}
 use Rattle.cd_elem.specs.declared.script.Stmt.{Stmt}
 use Rattle.cd_grammar.specs.Refusals.{IsText}
 use Rattle.cd_script.specs.declared.refusal.ScriptRefusal.{ScriptRefusal}
@@ -13,10 +14,10 @@ use Rattle.cd_cli.specs.Cause.{cause_of_refusal}
 use Rattle.cd_cli.specs.Judge.{IsFit, HasTree, HasNone, too_long, no_utf8, syntax, limit, Judged}
 
 module _ (text : List ℕ) where
-  pub long_has_none : 65536 < length text → HasNone text ScriptLimit
+  pub long_has_none : text_limit < length text → HasNone text ScriptLimit
   long_has_none long = record { why = too_long long; none = λ tree is. absurd (omega (arith, long, is.fit.few)) }
 
-  pub broken_has_none : (at : ℕ) → length text ≤ 65536 → (IsUtf8 text → ⊥) → IsValidUpTo text at → HasNone text (ScriptText at)
+  pub broken_has_none : (at : ℕ) → length text ≤ text_limit → (IsUtf8 text → ⊥) → IsValidUpTo text at → HasNone text (ScriptText at)
   broken_has_none at few broken valid = record { why = no_utf8 at few broken valid; none = λ tree is. broken is.fit.utf8 }
 
   parsed_has_tree : (tree : List Stmt) → IsFit text → IsText text tree → ((other : List Stmt) → IsText text other → tree ≡ other) → HasTree text tree
@@ -33,7 +34,7 @@ module _ (text : List ℕ) where
   judged_err (Err other) cause is none = subst (λ (c : Cause). (c ≡ WithoutMemory) ⊎ HasNone text c) (sym is) none
 
   -- what is parsed is the text
-  module _ (read : List ℕ) (same : read ≡ text) (few : length text ≤ 65536) (utf8 : IsUtf8 text) where
+  module _ (read : List ℕ) (same : read ≡ text) (few : length text ≤ text_limit) (utf8 : IsUtf8 text) where
     fit : IsFit text
     fit = record { few = few; utf8 = utf8 }
 

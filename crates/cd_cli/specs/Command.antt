@@ -18,7 +18,7 @@ use Rattle.cd_cli.specs.declared.arguments.Command.{Command}
 use Rattle.cd_cli.specs.declared.arguments.Command.TheVariants.{Run, Show}
 use Rattle.cd_cli.specs.Arguments.{IsCommand, IsNone, script_of}
 use Rattle.cd_cli.specs.Form.{NoForm}
-use Rattle.cd_cli.specs.Judge.{HasTree, HasNone, IsScriptOf}
+use Rattle.cd_cli.specs.Judge.{read_limit, HasTree, HasNone, IsScriptOf}
 use Rattle.cd_cli.specs.Script.{ReadsWhole, TriesRead}
 use Rattle.cd_cli.specs.Seen.{seen_of}
 use Rattle.cd_cli.specs.Take.{KeepsRest, NoneFailed, OpensAndCloses}
@@ -75,10 +75,10 @@ pub record Logs (DoesSo : Cause → List Event → Type 0) (cause : Cause) (l l'
   pub log : l' ≡ l ++ calls
   pub does : DoesSo cause calls
 
--- The first calls read the script, of which at most 65,537 bytes are read. The text that is judged is all that they gave, and the other calls do this with its tree.
+-- The first calls read the script, of which at most `read_limit` bytes are read. The text that is judged is all that they gave, and the other calls do this with its tree.
 pub data ReadsAndJudges (DoesTree : List Stmt → Cause → List Event → Type 0) (script : List ℕ) (cause : Cause) : List Event → List Event → Type 0 where
-  unread : (error : WorldError) (reading : List Event) → TriesRead script 65537 error reading → cause ≡ script_cause error → ReadsAndJudges DoesTree script cause reading []
-  read : (text : List ℕ) (reading calls : List Event) → ReadsWhole script 65537 text reading → Judges DoesTree text cause calls → ReadsAndJudges DoesTree script cause reading calls
+  unread : (error : WorldError) (reading : List Event) → TriesRead script read_limit error reading → cause ≡ script_cause error → ReadsAndJudges DoesTree script cause reading []
+  read : (text : List ℕ) (reading calls : List Event) → ReadsWhole script read_limit text reading → Judges DoesTree text cause calls → ReadsAndJudges DoesTree script cause reading calls
 
 -- The words are read, and nothing is called for words of no command.
 pub data Calls (words : List (List ℕ)) (cause : Cause) : List Event → List Event → Type 0 where

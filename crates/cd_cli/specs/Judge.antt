@@ -1,15 +1,20 @@
 -- What a script's bytes are judged to be.
-use Rattle.std.specs.Prelude.{◌≡◌, ◌≤◌, ◌<◌, ◌⊎◌, ℕ, List, length, Result, Ok, Err, IsUtf8}
+use Rattle.std.specs.Prelude.{◌≡◌, ◌≤◌, ◌<◌, ◌+◌, ◌⊎◌, ℕ, List, length, Result, Ok, Err, IsUtf8}
 use Rattle.std.specs.Str.{IsValidUpTo}
 use Rattle.cd_elem.specs.declared.script.Stmt.{Stmt}
 use Rattle.cd_elem.specs.declared.token.LimitKind.{LimitKind}
+use Rattle.cd_grammar.specs.Limits.{text_limit}
 use Rattle.cd_grammar.specs.Refusals.{IsText, IsSyntaxAt, IsLimitAt}
 use Rattle.cd_cli.specs.declared.cause.Cause.{Cause}
 use Rattle.cd_cli.specs.declared.cause.Cause.TheVariants.{ScriptLimit, ScriptText, Syntax, Limit, NoMemory}
 
+-- so many bytes of a script are read at most: one more than its text may have
+abbrev pub read_limit : ℕ
+read_limit = text_limit + 1
+
 -- few enough bytes, and UTF-8
 pub record IsFit (text : List ℕ) : Type 0 where
-  pub few : length text ≤ 65536
+  pub few : length text ≤ text_limit
   pub utf8 : IsUtf8 text
 
 -- the bytes of a script with this tree
@@ -24,8 +29,8 @@ pub record HasTree (text : List ℕ) (tree : List Stmt) : Type 0 where
 
 -- why these bytes are no script: they are too many; no UTF-8 from some byte on; or no script by the grammar or a limit
 pub data IsRefused (text : List ℕ) : Cause → Type 0 where
-  too_long : 65536 < length text → IsRefused text ScriptLimit
-  no_utf8 : (at : ℕ) → length text ≤ 65536 → (IsUtf8 text → ⊥) → IsValidUpTo text at → IsRefused text (ScriptText at)
+  too_long : text_limit < length text → IsRefused text ScriptLimit
+  no_utf8 : (at : ℕ) → length text ≤ text_limit → (IsUtf8 text → ⊥) → IsValidUpTo text at → IsRefused text (ScriptText at)
   syntax : (at : ℕ) → IsFit text → IsSyntaxAt text at → IsRefused text (Syntax at)
   limit : (which : LimitKind) (at : ℕ) → IsFit text → IsLimitAt text which at → IsRefused text (Limit which at)
 

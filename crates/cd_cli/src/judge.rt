@@ -5,19 +5,16 @@ ghost use Rattle.cd_cli.specs.Judge.{Judged};
 
 use crate::cause::Cause;
 use cd_elem::Script;
-use cd_script::parse;
+use cd_script::{TEXT_LIMIT, parse};
 use simdutf8::compat;
 use std::alloc::Global;
-
-/// How many bytes a script has at most.
-const SCRIPT_MAX: usize = 65_536;
 
 /// The tree of a script's bytes, or why they have none: they are too many, no UTF-8, or no script.
 pub fn judge(alloc: Global, text: &[u8]) -> Result<Script, Cause>
     ensures judged { Judged text.now result }
     ensures within { IfOk result (λ tree. IsTreeWithin tree) }
 {
-    if text.len() > SCRIPT_MAX {
+    if text.len() > TEXT_LIMIT {
         return Err(Cause::ScriptLimit);
     }
     match compat::from_utf8(text) {

@@ -3,14 +3,16 @@ ghost use Rattle.std.specs.Prelude.{◌≡◌, ◌≤◌, ℕ, List, Contains, I
 ghost use Rattle.cd_world.specs.declared.event.Use.TheVariants.{Reading};
 ghost use Rattle.cd_world.specs.Causes.{HasCause};
 ghost use Rattle.cd_world.specs.Live.{IsLive, open_as};
+ghost use Rattle.cd_cli.specs.Judge.{read_limit};
 ghost use Rattle.cd_cli.specs.Script.{Fills, LogsFill, ReadsFront, LogsRead};
 
 use crate::take::{buffer_of, with_closing};
+use cd_script::TEXT_LIMIT;
 use cd_world::{Descriptor, World, WorldError};
 use std::alloc::Global;
 
 /// How many bytes of a script are read: one more than a script may have.
-const SCRIPT_SIZE: usize = 65_537;
+const READ_LIMIT: usize = TEXT_LIMIT + 1;
 
 /// Fills the front of a buffer with what is left of a file, up to the size of the buffer, and says how many bytes
 /// those are.
@@ -66,7 +68,7 @@ fn read_at_most<W: World>(
     Ok(text)
 }
 
-/// Reads a script file to its end, or to `SCRIPT_SIZE` bytes, and closes it.
+/// Reads a script file to its end, or to `READ_LIMIT` bytes, and closes it.
 pub fn read_script<W: World>(
     alloc: Global,
     world: &mut W,
@@ -74,8 +76,8 @@ pub fn read_script<W: World>(
 ) -> Result<Vec<u8>, WorldError>
     ensures cause { HasCause (W.faults world.old) (W.faults world.new) result }
     ensures live { W.live world.new ≡ W.live world.old }
-    ensures files { IsTrue W.tells_files → ReadsFront name.now 65537 (λ text. text.items) result (W.files world.old) (W.files world.new) }
-    ensures log { IsTrue W.tells_log → LogsRead name.now 65537 (λ text. text.items) result (W.log world.old) (W.log world.new) }
+    ensures files { IsTrue W.tells_files → ReadsFront name.now read_limit (λ text. text.items) result (W.files world.old) (W.files world.new) }
+    ensures log { IsTrue W.tells_log → LogsRead name.now read_limit (λ text. text.items) result (W.log world.old) (W.log world.new) }
 {
-    read_at_most(alloc, world, name, SCRIPT_SIZE)
+    read_at_most(alloc, world, name, READ_LIMIT)
 }

@@ -4,6 +4,7 @@ use Rattle.cd_elem.specs.declared.kind.Sort.{Sort}
 use Rattle.cd_elem.specs.declared.kind.Sort.TheVariants as sort
 use Rattle.cd_elem.specs.declared.chunk.Elements.{Elements}
 use Rattle.cd_elem.specs.declared.chunk.Elements.TheVariants as elements
+use Rattle.cd_elem.specs.Limits.{chunk_limit, piece_limit}
 
 -- a cut stream's elements, and no piece
 abbrev pub is_cut : Sort → Bool
@@ -22,8 +23,8 @@ has_chars sort.Text = true
 -- how many elements a chunk of this sort may have
 pub record HasSize (of : Sort) (count : ℕ) : Type 0 where
   pub some : IsTrue (is_cut of) → 0 < count
-  pub cut : IsTrue (is_cut of) → count ≤ 65536
-  pub piece : count ≤ 1048576
+  pub cut : IsTrue (is_cut of) → count ≤ chunk_limit
+  pub piece : count ≤ piece_limit
 
 abbrev pub sort_of : Elements → Sort
 sort_of (elements.Bytes items) = sort.Bytes
@@ -39,4 +40,4 @@ numbers_of (elements.Text items) = items
 
 -- where the skipped elements end, and how many stand behind them
 abbrev pub StandsAt : ℕ → Elements → Type 0
-StandsAt start held = (start ≤ length (numbers_of held)) × (length (numbers_of held) ≤ 1048576) × HasSize (sort_of held) (length (numbers_of held) - start)
+StandsAt start held = (start ≤ length (numbers_of held)) × (length (numbers_of held) ≤ piece_limit) × HasSize (sort_of held) (length (numbers_of held) - start)

@@ -1,6 +1,7 @@
 // Chunks: what goes from one part of a pipe to the next.
 ghost use Rattle.std.specs.Prelude.{◌≡◌, ◌<◌, ◌≤◌, ◌+◌, ◌↔◌, length, slice_get, take, drop, IsTrue, IsSome, IfSome, IfOk, OnOk, OnErr, [], false, true};
 ghost use Rattle.cd_elem.specs.Chunks.{is_cut, has_chars, HasSize, sort_of, numbers_of};
+ghost use Rattle.cd_elem.specs.Limits.{chunk_limit, piece_limit};
 ghost use Rattle.cd_elem.specs.declared.kind.Sort.TheVariants as sort;
 
 use crate::items::Items;
@@ -9,6 +10,9 @@ use crate::no_memory::NoMemory;
 use crate::{ByteList, CharList};
 use std::alloc::Global;
 use std::marker::Model;
+
+/// How many elements a chunk of a cut stream has at most.
+pub const CHUNK_LIMIT: usize = 65_536;
 
 /// The elements of a chunk, and of those skipped in front of them.
 #[derive(Drop)]
@@ -105,7 +109,7 @@ fn char_at(items: &[char], place: usize) -> Option<u32>
     }
 }
 
-/// 1 to 65,536 elements of a cut stream, or one piece of at most 1,048,576 elements. Contracts see its sort and
+/// 1 to `CHUNK_LIMIT` elements of a cut stream, or one piece of at most 1,048,576 elements. Contracts see its sort and
 /// beside it the list of its elements' numbers: of a byte its value, of a character its scalar value.
 #[derive(Drop)]
 pub struct Chunk {
@@ -131,7 +135,7 @@ impl Chunk {
     /// A copy of these elements of a stream of bytes.
     pub fn bytes(alloc: Global, items: &[u8]) -> Result<Chunk, NoMemory>
         requires some { 0 < length items.now }
-        requires most { length items.now ≤ 65536 }
+        requires most { length items.now ≤ chunk_limit }
         ensures { IfOk result (λ chunk. chunk ≡ (sort.Bytes, items.now)) }
     {
         let items = Items::from_slice(alloc, items)?;
@@ -141,7 +145,7 @@ impl Chunk {
     /// A copy of these elements of a stream of characters.
     pub fn chars(alloc: Global, items: &[char]) -> Result<Chunk, NoMemory>
         requires some { 0 < length items.now }
-        requires most { length items.now ≤ 65536 }
+        requires most { length items.now ≤ chunk_limit }
         ensures { IfOk result (λ chunk. chunk ≡ (sort.Chars, items.now)) }
     {
         let items = Items::from_slice(alloc, items)?;
@@ -150,7 +154,7 @@ impl Chunk {
 
     /// A copy of this piece of bytes.
     pub fn block(alloc: Global, items: &[u8]) -> Result<Chunk, NoMemory>
-        requires most { length items.now ≤ 1048576 }
+        requires most { length items.now ≤ piece_limit }
         ensures { IfOk result (λ chunk. chunk ≡ (sort.Block, items.now)) }
     {
         let items = Items::from_slice(alloc, items)?;
@@ -159,7 +163,7 @@ impl Chunk {
 
     /// A copy of this piece of characters.
     pub fn text(alloc: Global, items: &[char]) -> Result<Chunk, NoMemory>
-        requires most { length items.now ≤ 1048576 }
+        requires most { length items.now ≤ piece_limit }
         ensures { IfOk result (λ chunk. chunk ≡ (sort.Text, items.now)) }
     {
         let items = Items::from_slice(alloc, items)?;
@@ -169,7 +173,7 @@ impl Chunk {
     /// These elements of a stream of bytes. It takes no memory.
     pub fn bytes_of(items: ByteList) -> Chunk
         requires some { 0 < length items }
-        requires most { length items ≤ 65536 }
+        requires most { length items ≤ chunk_limit }
         ensures { result ≡ (sort.Bytes, items) }
     {
         Chunk {
@@ -181,7 +185,7 @@ impl Chunk {
     /// These elements of a stream of characters. It takes no memory.
     pub fn chars_of(items: CharList) -> Chunk
         requires some { 0 < length items }
-        requires most { length items ≤ 65536 }
+        requires most { length items ≤ chunk_limit }
         ensures { result ≡ (sort.Chars, items) }
     {
         Chunk {
@@ -192,7 +196,7 @@ impl Chunk {
 
     /// This piece of bytes. It takes no memory.
     pub fn block_of(items: ByteList) -> Chunk
-        requires most { length items ≤ 1048576 }
+        requires most { length items ≤ piece_limit }
         ensures { result ≡ (sort.Block, items) }
     {
         Chunk {
@@ -203,7 +207,7 @@ impl Chunk {
 
     /// This piece of characters. It takes no memory.
     pub fn text_of(items: CharList) -> Chunk
-        requires most { length items ≤ 1048576 }
+        requires most { length items ≤ piece_limit }
         ensures { result ≡ (sort.Text, items) }
     {
         Chunk {

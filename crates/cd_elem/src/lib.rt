@@ -17,7 +17,7 @@ mod value;
 mod word;
 
 pub use boxed::Boxed;
-pub use chunk::Chunk;
+pub use chunk::{CHUNK_LIMIT, Chunk};
 pub use fault::Fault;
 pub use items::Items;
 pub use kind::{Kind, Sort};

@@ -4,6 +4,7 @@ use Rattle.std.proofs.lemmas.List.{length-take, length-take-le, length-replicate
 use Rattle.std.proofs.Math.Seq.{take-length}
 use Rattle.std.proofs.Math.Nat.{le-div_iff_mul-le}
 use Rattle.std.specs.List.{prefix_len, flat_map}
+use Rattle.cd_elem.specs.Limits.{chunk_limit, repeat_limit}
 use Rattle.cd_elem.specs.Chunks.{is_cut, HasSize}
 use Rattle.cd_elem.specs.declared.value.Value.{Value as Result}
 use Rattle.cd_elem.specs.declared.value.Value.TheVariants as result
@@ -71,7 +72,7 @@ filter_fits p (x ∷ numbers) = by_test (p x) (filter_fits p numbers) where
   by_test true h = omega (arith, h)
   by_test false h = omega (arith, h)
 
-pub filtered_fits : (p : ℕ → Bool) (numbers l : List ℕ) (c : Chunk) (k : Sort) (len : ℕ) → c ≡ (k, numbers) → len ≡ length c.1 → len ≤ 65536 → l ≡ filter p numbers → length l ≤ 65536
+pub filtered_fits : (p : ℕ → Bool) (numbers l : List ℕ) (c : Chunk) (k : Sort) (len : ℕ) → c ≡ (k, numbers) → len ≡ length c.1 → len ≤ chunk_limit → l ≡ filter p numbers → length l ≤ chunk_limit
 filtered_fits p numbers l c k len e h m i = let n = filter_fits p numbers in let e1 = ap (λ y. length y.1) e in let i1 = ap length i in omega (arith, n, e1, i1, h, m)
 
 -- ---- words that give elements
@@ -97,7 +98,7 @@ pub take_while_end : (k : Sort) (c : Class) (l numbers : List ℕ) (count : ℕ)
     → IsPlan k (Doing (state.TakeWhile c) l) numbers (End result.Unit 0) (Doing (state.TakeWhile c) l)
 take_while_end k c l numbers count h f z = (omega arith, done_by k _ _ _ _ _ unit_is (done_take_while k c l numbers f (sym h ∙ z)))
 
-all_given : (k : Sort) (s t : Carried) (numbers : List ℕ) (made : Chunk) (len : ℕ) (given : List ℕ) → Emits k t → len ≡ length numbers → 0 < len → made ≡ (k, given) → 0 < length given → length given ≤ 65536
+all_given : (k : Sort) (s t : Carried) (numbers : List ℕ) (made : Chunk) (len : ℕ) (given : List ℕ) → Emits k t → len ≡ length numbers → 0 < len → made ≡ (k, given) → 0 < length given → length given ≤ chunk_limit
     → IsRead (word_scan k) s (elems numbers) (outs given) t → IsPlan k s numbers (Give made len) t
 all_given k s t numbers made len given g h f e p m r = rw e (
   g,
@@ -120,7 +121,7 @@ length_mapped : (f : ℕ → ℕ) (numbers : List ℕ) → length (map f numbers
 length_mapped f [] = refl
 length_mapped f (x ∷ numbers) = ap suc (length_mapped f numbers)
 
-pub map_plan : (k : Sort) (by : ByteMap) (l numbers : List ℕ) (made : Chunk) (len : ℕ) → len ≡ length numbers → 0 < len → len ≤ 65536 → made ≡ (k, map (element_mapped by) numbers)
+pub map_plan : (k : Sort) (by : ByteMap) (l numbers : List ℕ) (made : Chunk) (len : ℕ) → len ≡ length numbers → 0 < len → len ≤ chunk_limit → made ≡ (k, map (element_mapped by) numbers)
     → IsPlan k (Doing (state.Map by) l) numbers (Give made len) (Doing (state.Map by) l)
 map_plan k by l numbers made len h f m e =
     let n = length_mapped (element_mapped by) numbers in
@@ -135,30 +136,30 @@ length_repeated n (x ∷ numbers) =
     ∙ grind (arith)
 
 -- as many elements as fit
-pub fits_some : (times len : ℕ) → times ≢ 0 → times ≤ 4096 → 0 < len → 0 < min len (65536 / times)
-fits_some times len z h f = let e = (le-div_iff_mul-le {k = times} {x = 1} {y = 65536} (omega (arith, z))).1 (omega (arith, h)) in omega (arith, e, f)
+pub fits_some : (times len : ℕ) → times ≢ 0 → times ≤ repeat_limit → 0 < len → 0 < min len (chunk_limit / times)
+fits_some times len z h f = let e = (le-div_iff_mul-le {k = times} {x = 1} {y = chunk_limit} (omega (arith, z))).1 (omega (arith, h)) in omega (arith, e, f)
 
-pub fits_most : (times len : ℕ) → times ≢ 0 → min len (65536 / times) * times ≤ 65536
-fits_most times len z = (le-div_iff_mul-le {k = times} {x = min len (65536 / times)} {y = 65536} (omega (arith, z))).0 (omega arith)
+pub fits_most : (times len : ℕ) → times ≢ 0 → min len (chunk_limit / times) * times ≤ chunk_limit
+fits_most times len z = (le-div_iff_mul-le {k = times} {x = min len (chunk_limit / times)} {y = chunk_limit} (omega (arith, z))).0 (omega arith)
 
-pub repeat_plan : (k : Sort) (times : ℕ) (l numbers : List ℕ) (made : Chunk) (count : ℕ) → count ≤ length numbers → 0 < count → times ≢ 0 → count * times ≤ 65536 → made ≡ (k, flat_map (λ x. replicate times x) (take count numbers))
+pub repeat_plan : (k : Sort) (times : ℕ) (l numbers : List ℕ) (made : Chunk) (count : ℕ) → count ≤ length numbers → 0 < count → times ≢ 0 → count * times ≤ chunk_limit → made ≡ (k, flat_map (λ x. replicate times x) (take count numbers))
     → IsPlan k (Doing (state.Repeat times) l) numbers (Give made count) (Doing (state.Repeat times) l)
 repeat_plan k times l numbers made count h f z m e =
     let n = length_repeated times (take count numbers) in
     let j = length-take-le count numbers h in
     let n1 : length (flat_map (λ x. replicate times x) (take count numbers)) ≡ count * times = n ∙ ap (λ i. i * times) j in
-    rw e (refl, f, h, refl, some_times n1 f z, subst (λ i. i ≤ 65536) (sym n1) m, read_repeat k times l (take count numbers)) where
+    rw e (refl, f, h, refl, some_times n1 f z, subst (λ i. i ≤ chunk_limit) (sym n1) m, read_repeat k times l (take count numbers)) where
       some_times : {a b c : ℕ} → a ≡ b * c → 0 < b → c ≢ 0 → 0 < a
       some_times {b = zero} e f z = absurd (omega (arith, f))
       some_times {b = suc b} {c = zero} e f z = absurd (z refl)
       some_times {b = suc b} {c = suc c} e f z = grind (arith)
 
-pub repeated_fits : (times count n : ℕ) (numbers l : List ℕ) → l ≡ flat_map (λ x. replicate times x) (take n numbers) → n ≤ count → count * times ≤ 65536 → length l ≤ 65536
+pub repeated_fits : (times count n : ℕ) (numbers l : List ℕ) → l ≡ flat_map (λ x. replicate times x) (take n numbers) → n ≤ count → count * times ≤ chunk_limit → length l ≤ chunk_limit
 repeated_fits times count n numbers l e h m =
     let e1 = ap length e ∙ length_repeated times (take n numbers) in
     let e2 = length-take n numbers in
     le_trans e1 (mul_mono times (let z : length (take n numbers) ≤ count = omega (arith, e2, h) in z)) m where
-      le_trans : {a b c : ℕ} → a ≡ b → b ≤ c → c ≤ 65536 → a ≤ 65536
+      le_trans : {a b c : ℕ} → a ≡ b → b ≤ c → c ≤ chunk_limit → a ≤ chunk_limit
       le_trans e h m = omega (arith, e, h, m)
 
       mul_mono : {a b : ℕ} (k : ℕ) → a ≤ b → a * k ≤ b * k

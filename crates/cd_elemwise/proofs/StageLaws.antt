@@ -3,6 +3,7 @@ use Rattle.std.proofs.Common.{◌≡◌, ℕ, zero, suc, ◌+◌, ◌≤◌, ◌
 use Rattle.std.proofs.lemmas.List.{length-map, length-take-le, take-append-drop}
 use Rattle.std.proofs.Math.ListN.{drop_of_length-le}
 use Rattle.std.proofs.Math.Seq.{take-length}
+use Rattle.cd_elem.specs.Limits.{chunk_limit}
 use Rattle.cd_elem.specs.Chunks.{is_cut, HasSize}
 use Rattle.cd_elem.specs.declared.value.Value.{Value as Result}
 use Rattle.cd_meaning.specs.Stream.{Sort, Item, Elem, Act, Out}
@@ -47,13 +48,13 @@ items_of_cut Sort.Text numbers h = cc
 cut_items : (k : Sort) (c : Chunk) → IsTrue (is_cut k) → c.0 ≡ k → items c ≡ elems c.1
 cut_items k c h e = ap (λ s. items_at s c.1) e ∙ items_of_cut k c.1 h
 
-chunk_of_cut : (k : Sort) (numbers : List ℕ) → IsTrue (is_cut k) → 0 < length numbers → length numbers ≤ 65536 → IsChunk (kind_of k) (k, numbers)
+chunk_of_cut : (k : Sort) (numbers : List ℕ) → IsTrue (is_cut k) → 0 < length numbers → length numbers ≤ chunk_limit → IsChunk (kind_of k) (k, numbers)
 chunk_of_cut Sort.Bytes numbers h f m = (subst (λ n. 0 < n) (sym (length-map numbers Elem)) f, refl, m)
 chunk_of_cut Sort.Chars numbers h f m = (subst (λ n. 0 < n) (sym (length-map numbers Elem)) f, refl, m)
 chunk_of_cut Sort.Block numbers h f m = cc
 chunk_of_cut Sort.Text numbers h f m = cc
 
-cut_is : (k : Sort) (c : Chunk) → IsTrue (is_cut k) → c.0 ≡ k → 0 < length c.1 → length c.1 ≤ 65536 → IsChunk (kind_of k) c
+cut_is : (k : Sort) (c : Chunk) → IsTrue (is_cut k) → c.0 ≡ k → 0 < length c.1 → length c.1 ≤ chunk_limit → IsChunk (kind_of k) c
 cut_is k c h e f m = subst (λ s. IsChunk (kind_of k) (s, c.1)) (sym e) (chunk_of_cut k c.1 h f m)
 
 cut_rest : (k : Sort) (numbers : List ℕ) (r : Option Chunk) → IsTrue (is_cut k) → IsChunkOf k numbers r → rest_items r ≡ elems numbers
@@ -104,7 +105,7 @@ need_stage e s c h t k i p =
     rw (t, k) (need_law (word_scan e.sort) (part_at e.stand) (grade_of e.sort) (gives_of e.state e.sort) (Some (kind_of e.sort)) _ _ _ (items c) s (carried e) (subst (λ u. IsSilent (word_scan e.sort) s u (carried e)) (sym (cut_items e.sort c h i)) p.0) p.1)
 
 -- some of the chunk is read, and d is given for it
-pub emit_stage : (e : ElemStage) (s : Carried) (c d : Chunk) (count : ℕ) (r : Option Chunk) → IsTrue (is_cut e.sort) → e.told ≡ false → c.0 ≡ e.sort → d.0 ≡ e.sort → 0 < length d.1 → length d.1 ≤ 65536
+pub emit_stage : (e : ElemStage) (s : Carried) (c d : Chunk) (count : ℕ) (r : Option Chunk) → IsTrue (is_cut e.sort) → e.told ≡ false → c.0 ≡ e.sort → d.0 ≡ e.sort → 0 < length d.1 → length d.1 ≤ chunk_limit
     → Emits e.sort (carried e) → IsRead (word_scan e.sort) s (elems (take count c.1)) (outs d.1) (carried e) → rest_items r ≡ elems (drop count c.1)
     → Goes (Emit d) (seen_from s c e) (seen_stage (record e { stand = Gave; keep = r }))
 emit_stage e s c d count r h t i j f m g p b =
@@ -121,7 +122,7 @@ emit_stage e s c d count r h t i j f m g p b =
     (subst (λ x. IsOf x d) (sym g) (cut_is e.sort d h j f m)) (subst (λ a. IsRead w s (elems (take count c.1)) a (carried e)) (ap (map Out) (sym (cut_items e.sort d h j))) p))))
 
 -- the size of a chunk of a cut stream
-size_of : (k : Sort) (c : Chunk) (len : ℕ) → IsTrue (is_cut k) → c.0 ≡ k → len ≡ length c.1 → HasSize c.0 len → (0 < length c.1) × (length c.1 ≤ 65536)
+size_of : (k : Sort) (c : Chunk) (len : ℕ) → IsTrue (is_cut k) → c.0 ≡ k → len ≡ length c.1 → HasSize c.0 len → (0 < length c.1) × (length c.1 ≤ chunk_limit)
 size_of k c len h i e z =
     let f = z.some (subst (λ s. IsTrue (is_cut s)) (sym i) h) in
     let m = z.cut (subst (λ s. IsTrue (is_cut s)) (sym i) h) in

@@ -1,6 +1,7 @@
 -- The element words as scans, and what the typing asks of them.
 use Rattle.std.specs.Prelude.{◌≡◌, ℕ, zero, suc, ◌+◌, ◌<◌, ◌≤◌, Bool, true, false, not, List, [], ◌∷◌, ◌++◌, length, replicate, Option, Some, None, IsTrue}
 use Rattle.cd_elem.specs.Chunks.{is_cut}
+use Rattle.cd_elem.specs.Limits.{chunk_limit, piece_limit, repeat_limit, collect_limit}
 use Rattle.cd_elem.specs.declared.kind.Kind.{Kind}
 use Rattle.cd_elem.specs.declared.kind.Kind.TheVariants.{Bytes, Chars, Blocks, Texts}
 use Rattle.cd_elem.specs.declared.word.ByteMap.{ByteMap}
@@ -51,7 +52,7 @@ last_value (Some single) = single_value single
 -- a chunk of these, None where there are none
 abbrev pub IsChunkOf : Sort → List ℕ → Option Chunk → Type 0
 IsChunkOf k numbers None = numbers ≡ []
-IsChunkOf k numbers (Some c) = (c ≡ (k, numbers)) × (0 < length numbers) × (length numbers ≤ 65536)
+IsChunkOf k numbers (Some c) = (c ≡ (k, numbers)) × (0 < length numbers) × (length numbers ≤ chunk_limit)
 
 -- ---- lists
 
@@ -96,12 +97,12 @@ abbrev pub HasType : ElemWord → Sort → Type 0
 HasType (ElemWord.TakeWhileE c) k = ClassFits c k
 HasType (ElemWord.FilterE c) k = ClassFits c k
 HasType (ElemWord.MapE by) k = MapFits by k
-HasType (ElemWord.RepeatE n) k = IsTrue (is_cut k) × (n ≤ 4096)
+HasType (ElemWord.RepeatE n) k = IsTrue (is_cut k) × (n ≤ repeat_limit)
 HasType (ElemWord.DropWhileE c) k = ClassFits c k
 HasType ElemWord.SumE k = k ≡ Sort.Bytes
 HasType (ElemWord.AllE c) k = ClassFits c k
 HasType (ElemWord.AnyE c) k = ClassFits c k
-HasType (ElemWord.CollectE n) k = IsTrue (is_cut k) × (n ≤ 16777216)
+HasType (ElemWord.CollectE n) k = IsTrue (is_cut k) × (n ≤ collect_limit)
 HasType ElemWord.SinkNull k = Unit {0}
 HasType _ k = IsTrue (is_cut k)
 
@@ -117,8 +118,8 @@ bound_of _ = 0
 abbrev pub kind_of : Sort → Kind
 kind_of Sort.Bytes = Bytes
 kind_of Sort.Chars = Chars
-kind_of Sort.Block = Blocks 1048576
-kind_of Sort.Text = Texts 1048576
+kind_of Sort.Block = Blocks piece_limit
+kind_of Sort.Text = Texts piece_limit
 
 -- ---- states
 

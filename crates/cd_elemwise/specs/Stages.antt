@@ -1,6 +1,7 @@
 -- What is seen of a stage, and what holds of it between two steps.
 use Rattle.std.specs.Prelude.{◌≡◌, ℕ, zero, ◌+◌, ◌≤◌, Bool, true, false, List, length, Option, Some, None, IsTrue}
 use Rattle.cd_elem.specs.Chunks.{is_cut}
+use Rattle.cd_elem.specs.Limits.{repeat_limit}
 use Rattle.cd_meaning.specs.Stream.{Sort}
 use Rattle.cd_meaning.specs.Rest.{Grade}
 use Rattle.cd_meaning.specs.Values.{value_meaning}
@@ -34,7 +35,7 @@ may_carry _ = 0
 -- its state fits what it reads
 abbrev pub StateFits : WordState → Sort → Sort → Type 0
 StateFits (state.Map by) k listed = MapFits by k
-StateFits (state.Repeat n) k listed = IsTrue (is_cut k) × (n ≤ 4096)
+StateFits (state.Repeat n) k listed = IsTrue (is_cut k) × (n ≤ repeat_limit)
 StateFits (state.Sum n) k listed = k ≡ Sort.Bytes
 StateFits (state.Collect n) k listed = IsTrue (is_cut k) × (listed ≡ k)
 StateFits state.SinkNull k listed = Unit {0}

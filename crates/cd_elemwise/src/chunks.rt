@@ -2,6 +2,7 @@
 ghost use Rattle.std.specs.Prelude.{◌≡◌, ◌+◌, ◌-◌, ◌*◌, ◌<◌, ◌≤◌, ℕ, IfOk, IsTrue, length, map, filter, take, drop, replicate, sum, get_or};
 ghost use Rattle.std.specs.List.{prefix_len, flat_map};
 ghost use Rattle.cd_elem.specs.Chunks.{is_cut};
+ghost use Rattle.cd_elem.specs.Limits.{chunk_limit};
 ghost use Rattle.cd_elem.specs.declared.kind.Sort.TheVariants as sort;
 ghost use Rattle.cd_meaning.specs.Classes.{is_in_class, element_mapped};
 ghost use Rattle.cd_meaning.specs.RunShapes.{as_count};
@@ -45,7 +46,7 @@ pub fn front_of(class: Class, chunk: &Chunk) -> usize
 }
 
 fn some_chunk<T: Element>(list: Items<T>) -> Option<Chunk>
-    requires { length list ≤ 65536 }
+    requires { length list ≤ chunk_limit }
     ensures { IsChunkOf T.sort (map T.number list) result }
 {
     if list.is_empty() {
@@ -102,7 +103,7 @@ pub fn repeated_of(
     requires some { 0 < times }
     requires first { 0 < count }
     requires within { count ≤ length chunk.now.1 }
-    requires most { count * times ≤ 65536 }
+    requires most { count * times ≤ chunk_limit }
     ensures { IfOk result (λ made. made ≡ (chunk.now.0, flat_map (λ x. replicate times x) (take count chunk.now.1))) }
 {
     match elements_of(chunk) {

@@ -1,5 +1,6 @@
 // The elements of cut streams.
 ghost use Rattle.std.specs.Prelude.{◌≡◌, ◌<◌, ◌≤◌, ℕ, length, map};
+ghost use Rattle.cd_elem.specs.Limits.{chunk_limit};
 ghost use Rattle.cd_elem.specs.declared.kind.Sort.{Sort};
 ghost use Rattle.cd_elem.specs.declared.kind.Sort.TheVariants as sort;
 ghost use Rattle.cd_elem.specs.declared.word.ByteMap.{ByteMap};
@@ -29,7 +30,7 @@ pub trait Element: Copy + Drop {
 
     fn chunk_of(list: Items<Self>) -> Chunk
         requires some { 0 < length list }
-        requires most { length list ≤ 65536 }
+        requires most { length list ≤ chunk_limit }
         ensures { result ≡ (sort, map number list) };
 }
 
@@ -50,7 +51,7 @@ impl Element for u8 {
 
     fn chunk_of(list: Items<u8>) -> Chunk
         requires some { 0 < length list }
-        requires most { length list ≤ 65536 }
+        requires most { length list ≤ chunk_limit }
         ensures { result ≡ (sort.Bytes, map (λ byte. byte) list) }
     {
         Chunk::bytes_of(list)
@@ -74,7 +75,7 @@ impl Element for char {
 
     fn chunk_of(list: Items<char>) -> Chunk
         requires some { 0 < length list }
-        requires most { length list ≤ 65536 }
+        requires most { length list ≤ chunk_limit }
         ensures { result ≡ (sort.Chars, map (λ character. character) list) }
     {
         Chunk::chars_of(list)

@@ -1,6 +1,7 @@
 // What a word does with the chunk that it has.
 ghost use Rattle.std.specs.Prelude.{◌≡◌, ◌+◌, ◌<◌, ◌≤◌, ◌/◌, min, ℕ, List, IfOk, IsTrue, length, sum};
 ghost use Rattle.cd_elem.specs.Chunks.{is_cut};
+ghost use Rattle.cd_elem.specs.Limits.{chunk_limit, repeat_limit};
 ghost use Rattle.cd_elem.specs.declared.kind.Sort.TheVariants as sort;
 ghost use Rattle.cd_elemwise.specs.Carried.{Doing, MapFits, IsChunkOf};
 ghost use Rattle.cd_elemwise.specs.Plans.{IsPlan};
@@ -9,7 +10,7 @@ ghost use Rattle.cd_elemwise.specs.declared.state.WordState.TheVariants as state
 
 use crate::chunks::{front_of, last_of, mapped_of, passing_of, repeated_of, single_at, sum_of};
 use crate::state::{WordState, present_of};
-use cd_elem::{ByteMap, Chunk, Class, NoMemory, Value};
+use cd_elem::{ByteMap, CHUNK_LIMIT, Chunk, Class, NoMemory, Value};
 use std::alloc::Global;
 
 /// What a word does next with the elements of its chunk.
@@ -75,18 +76,17 @@ fn map(alloc: Global, by: ByteMap, chunk: &Chunk) -> Result<ChunkPlan, NoMemory>
     Ok(ChunkPlan::Give(made, len))
 }
 
-/// How many of these elements make a chunk of at most 65,536 elements, each so many times.
+/// How many of these elements make a chunk, each so many times.
 fn fitting(times: u64, len: usize) -> usize
     requires some { 0 < times }
-    ensures { result ≡ min len (65536 / times) }
+    ensures { result ≡ min len (chunk_limit / times) }
 {
-    len.min(65536 / times as usize)
+    len.min(CHUNK_LIMIT / times as usize)
 }
 
-/// The chunk that it gives has at most 65,536 elements.
 fn repeat(alloc: Global, times: u64, chunk: &Chunk) -> Result<ChunkPlan, NoMemory>
     requires cut { IsTrue (is_cut chunk.now.0) }
-    requires most { times ≤ 4096 }
+    requires most { times ≤ repeat_limit }
     ensures { IfOk result (λ plan. (l : List ℕ) → IsPlan chunk.now.0 (Doing (state.Repeat times) l) chunk.now.1 plan (Doing (state.Repeat times) l)) }
 {
     if times == 0 {

@@ -1,6 +1,7 @@
 // What is done with many elements at a time, in one pass.
 ghost use Rattle.std.specs.Prelude.{◌≡◌, ◌+◌, ◌*◌, ◌<◌, ◌≤◌, ℕ, IfOk, OnOk, ◌++◌, length, map, filter, replicate, sum};
 ghost use Rattle.std.specs.List.{prefix_len, flat_map};
+ghost use Rattle.cd_elem.specs.Limits.{chunk_limit};
 ghost use Rattle.cd_meaning.specs.Classes.{is_in_class, element_mapped};
 ghost use Rattle.cd_meaning.specs.RunShapes.{as_count};
 
@@ -59,9 +60,9 @@ fn push_times<T: Element>(list: &mut Vec<T>, item: T, times: usize) -> Result<()
     Ok(())
 }
 
-/// Each so many times, at most 65,536 in all.
+/// Each so many times, at most `CHUNK_LIMIT` in all.
 pub fn repeated<T: Element>(alloc: Global, times: usize, items: &[T]) -> Result<Items<T>, NoMemory>
-    requires { length items.now * times ≤ 65536 }
+    requires { length items.now * times ≤ chunk_limit }
     ensures { IfOk result (λ list. list ≡ flat_map (λ x. replicate times x) items.now) }
 {
     let mut list = Vec::with_capacity(alloc, items.len() * times)?;
@@ -73,7 +74,7 @@ pub fn repeated<T: Element>(alloc: Global, times: usize, items: &[T]) -> Result<
 
 /// The sum of the bytes of a chunk and of what was before, which stays at the greatest count.
 pub fn sum_behind(before: u64, bytes: &[u8]) -> u64
-    requires { length bytes.now ≤ 65536 }
+    requires { length bytes.now ≤ chunk_limit }
     ensures { result ≡ as_count (before + sum bytes.now) }
 {
     let mut total = 0;

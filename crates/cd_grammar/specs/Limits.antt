@@ -1,6 +1,7 @@
 -- The limits of tokens, depth, literals and numbers.
-use Rattle.std.specs.Prelude.{ℕ, ◌+◌, ◌-◌, ◌^◌, Bool, true, false, ◌&&◌, ◌||◌, nat_lt, if◌then◌else◌, List, [], ◌∷◌, length, take, drop, Option, Some, None, ◌≡◌}
+use Rattle.std.specs.Prelude.{ℕ, ◌+◌, ◌-◌, ◌^◌, Bool, true, false, ◌&&◌, ◌||◌, nat_lt, nat_le, if◌then◌else◌, List, [], ◌∷◌, length, take, drop, Option, Some, None, ◌≡◌}
 use Rattle.std.specs.List.{fold}
+use Rattle.cd_elem.specs.Limits.{repeat_limit, collect_limit}
 use Rattle.cd_elem.specs.declared.token.CountedWord.{CountedWord}
 use Rattle.cd_elem.specs.declared.token.CountedWord.TheVariants as counted
 use Rattle.cd_elem.specs.declared.token.Keyword.{Keyword}
@@ -11,6 +12,35 @@ use Rattle.cd_elem.specs.declared.token.Token.{Token}
 use Rattle.cd_elem.specs.declared.token.Token.TheVariants as token
 use Rattle.cd_elem.specs.declared.token.LimitKind.{LimitKind}
 use Rattle.cd_elem.specs.declared.token.LimitKind.TheVariants.{Tokens, Depth, Literal, Number}
+
+-- bytes of a script's text
+abbrev pub text_limit : ℕ
+text_limit = 65536
+
+-- tokens
+abbrev pub token_limit : ℕ
+token_limit = 8192
+
+-- open brackets
+abbrev pub depth_limit : ℕ
+depth_limit = 32
+
+-- bytes of a literal's value, and of a name
+abbrev pub literal_limit : ℕ
+literal_limit = 4096
+
+abbrev pub name_limit : ℕ
+name_limit = 64
+
+-- numbers: a length of pieces, a byte, and copies of a piece; those of cd_elem besides
+abbrev pub length_limit : ℕ
+length_limit = 65536
+
+abbrev pub byte_limit : ℕ
+byte_limit = 255
+
+abbrev pub copy_limit : ℕ
+copy_limit = 1099511627776
 
 -- the numbers that may stand in a place, both ends included
 pub record Bounds : Type 0 where
@@ -23,21 +53,21 @@ bounds least most = record { least = least; most = most }
 abbrev pub every_number : Bounds
 every_number = bounds 0 (2 ^ 64 - 1)
 
--- of times that something is repeated, of lengths of pieces, of things collected, and of bytes
+-- of times that something is repeated, of lengths of pieces, of things collected, of bytes, and of copies
 abbrev pub repeat_bounds : Bounds
-repeat_bounds = bounds 0 4096
+repeat_bounds = bounds 0 repeat_limit
 
 abbrev pub length_bounds : Bounds
-length_bounds = bounds 1 65536
+length_bounds = bounds 1 length_limit
 
 abbrev pub collect_bounds : Bounds
-collect_bounds = bounds 0 16777216
+collect_bounds = bounds 0 collect_limit
 
 abbrev pub byte_bounds : Bounds
-byte_bounds = bounds 0 255
+byte_bounds = bounds 0 byte_limit
 
 abbrev pub copy_bounds : Bounds
-copy_bounds = bounds 0 1099511627776
+copy_bounds = bounds 0 copy_limit
 
 abbrev pub counted_bounds : CountedWord → Bounds
 counted_bounds counted.TakeE = every_number
@@ -95,8 +125,8 @@ opens_bracket (token.Sign s) = sign_opens_bracket s
 opens_bracket _ = false
 
 abbrev pub is_too_long : Token → Bool
-is_too_long (token.Text s) = nat_lt 4096 (length s)
-is_too_long (token.Named n) = nat_lt 64 (length n)
+is_too_long (token.Text s) = nat_lt literal_limit (length s)
+is_too_long (token.Named n) = nat_lt name_limit (length n)
 is_too_long _ = false
 
 abbrev pub is_outside : Bounds → Token → Bool
@@ -107,8 +137,8 @@ is_outside r _ = false
 -- the first limit that a token passes, behind so many tokens and open brackets
 abbrev pub limit_of : ℕ → ℕ → Bounds → Token → Option LimitKind
 limit_of count open_now r t =
-    if nat_lt 8191 count then Some Tokens
-    else (if nat_lt 31 open_now && opens_bracket t then Some Depth
+    if nat_le token_limit count then Some Tokens
+    else (if nat_le depth_limit open_now && opens_bracket t then Some Depth
     else (if is_too_long t then Some Literal
     else (if is_outside r t then Some Number else None)))
 

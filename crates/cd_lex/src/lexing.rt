@@ -1,6 +1,7 @@
 // The tokens of a text, one behind another.
 ghost use Rattle.std.specs.Prelude.{◌≡◌, ◌≤◌, false, length, IfOk};
 ghost use Rattle.cd_grammar.specs.Lexemes as spec;
+ghost use Rattle.cd_grammar.specs.Limits.{text_limit};
 ghost use Rattle.std.specs.Str.{IsUtf8};
 ghost use Rattle.cd_lex.specs.NextLexeme.{FindsNext};
 
@@ -68,7 +69,7 @@ enum NextLexeme {
 
 fn next_lexeme(alloc: Global, text: &[u8], at: usize, zero: bool) -> Result<NextLexeme, NoMemory>
     requires at { at ≤ length text.now }
-    requires short { length text.now ≤ 65536 }
+    requires short { length text.now ≤ text_limit }
     requires utf8 { IsUtf8 text.now }
     ensures { IfOk result (λ look. FindsNext text.now at zero look) }
 {
@@ -101,7 +102,7 @@ pub struct Lexed {
 /// The tokens of a text. A `lexed.stop` is the text's length where the tokens are those of the whole text, and else
 /// the first place where no token begins.
 pub fn lex(alloc: Global, text: &str) -> Result<Lexed, NoMemory>
-    requires { length text.now ≤ 65536 }
+    requires { length text.now ≤ text_limit }
     ensures { IfOk result (λ it. spec.Tokenizes text.now it.lexemes it.stop it.whole) }
 {
     let text = text.as_bytes();

@@ -1,20 +1,20 @@
 -- The limits as a walk: each token is judged by what stands before it.
 use Rattle.std.proofs.Common.{◌≡◌, ℕ, zero, suc, ◌+◌, ◌≤◌, Bool, true, false, ◌&&◌, if◌then◌else◌, List, [], ◌∷◌, ◌++◌, Option, Some, None, take, drop, length, refl, ap, sym, ◌∙◌, arith}
-use Rattle.std.specs.Prelude.{nat_lt}
+use Rattle.std.specs.Prelude.{nat_le}
 use Rattle.std.specs.List.{fold}
-use Rattle.std.proofs.lemmas.Bool.{ltb-false, le-ltb}
+use Rattle.std.proofs.lemmas.Bool.{leb-false, lt-leb}
 use Rattle.cd_elem.specs.declared.token.Sign.{Sign}
 use Rattle.cd_elem.specs.declared.token.Sign.TheVariants as sign
 use Rattle.cd_elem.specs.declared.token.Token.{Token}
 use Rattle.cd_elem.specs.declared.token.Token.TheVariants as token
 use Rattle.cd_elem.specs.declared.token.LimitKind.{LimitKind}
 use Rattle.cd_elem.specs.declared.token.LimitKind.TheVariants.{Tokens, Depth, Literal, Number}
-use Rattle.cd_grammar.specs.Limits.{Bounds, every_number, bounds_behind, brackets_with, brackets_with_sign, opens_bracket, is_too_long, is_outside, limit_of, limit_here, IsWithinLimits}
+use Rattle.cd_grammar.specs.Limits.{token_limit, depth_limit, Bounds, every_number, bounds_behind, brackets_with, brackets_with_sign, opens_bracket, is_too_long, is_outside, limit_of, limit_here, IsWithinLimits}
 
 -- this token passes no limit behind so many tokens and open brackets
 pub record Passes (count opened : ℕ) (b : Bounds) (t : Token) : Type 0 where
-  pub tokens : nat_lt 8191 count ≡ false
-  pub depth : (nat_lt 31 opened && opens_bracket t) ≡ false
+  pub tokens : nat_le token_limit count ≡ false
+  pub depth : (nat_le depth_limit opened && opens_bracket t) ≡ false
   pub literal : is_too_long t ≡ false
   pub number : is_outside b t ≡ false
 
@@ -47,7 +47,7 @@ none_chosen false false false false e = record { first = refl; second = refl; th
 
 passes : (count opened : ℕ) (b : Bounds) (t : Token) → limit_of count opened b t ≡ None → Passes count opened b t
 passes count opened b t e =
-    let f = none_chosen (nat_lt 8191 count) (nat_lt 31 opened && opens_bracket t) (is_too_long t) (is_outside b t) e in
+    let f = none_chosen (nat_le token_limit count) (nat_le depth_limit opened && opens_bracket t) (is_too_long t) (is_outside b t) e in
     record { tokens = f.first; depth = f.second; literal = f.third; number = f.fourth }
 
 no_limit : (count opened : ℕ) (b : Bounds) (t : Token) → Passes count opened b t → limit_of count opened b t ≡ None
@@ -95,10 +95,10 @@ pub within : (ts : List Token) → Fits 0 0 every_number ts → IsWithinLimits t
 within ts f i = sym (from_start (take i ts) (drop i ts)) ∙ none_past 0 0 every_number ts f i
 
 -- fewer tokens before it, and fewer open brackets
-pub no_more : (most m n : ℕ) → nat_lt most n ≡ false → m ≤ n → nat_lt most m ≡ false
+pub no_more : (most m n : ℕ) → nat_le most n ≡ false → m ≤ n → nat_le most m ≡ false
 no_more most m n e h =
-    let k = ltb-false most n e in
-    le-ltb most m (omega (arith, h, k))
+    let k = leb-false most n e in
+    lt-leb most m (omega (arith, h, k))
 
 also_false : (x y b : Bool) → (x ≡ false → y ≡ false) → (x && b) ≡ false → (y && b) ≡ false
 also_false x false b k e = refl
@@ -106,13 +106,13 @@ also_false x true false k e = refl
 also_false false true true k e = k refl
 also_false true true true k e = e
 
-no_deeper : (most m n : ℕ) (opens : Bool) → (nat_lt most n && opens) ≡ false → m ≤ n → (nat_lt most m && opens) ≡ false
-no_deeper most m n opens e h = also_false (nat_lt most n) (nat_lt most m) opens (λ f. no_more most m n f h) e
+no_deeper : (most m n : ℕ) (opens : Bool) → (nat_le most n && opens) ≡ false → m ≤ n → (nat_le most m && opens) ≡ false
+no_deeper most m n opens e h = also_false (nat_le most n) (nat_le most m) opens (λ f. no_more most m n f h) e
 
 pub fewer_passes : (c c' o o' : ℕ) (b : Bounds) (t : Token) → c' ≤ c → o' ≤ o → Passes c o b t → Passes c' o' b t
 fewer_passes c c' o o' b t h k p = record {
-  tokens = no_more 8191 c' c p.tokens h;
-  depth = no_deeper 31 o' o (opens_bracket t) p.depth k;
+  tokens = no_more token_limit c' c p.tokens h;
+  depth = no_deeper depth_limit o' o (opens_bracket t) p.depth k;
   literal = p.literal;
   number = p.number;
 }

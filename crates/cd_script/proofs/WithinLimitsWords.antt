@@ -33,7 +33,7 @@ use Rattle.cd_elem.specs.declared.token.Token.{Token}
 use Rattle.cd_elem.specs.declared.token.Token.TheVariants as token
 use Rattle.cd_elem.specs.declared.word.Class.{Class}
 use Rattle.cd_elem.specs.declared.word.PieceTest.{PieceTest}
-use Rattle.cd_grammar.specs.Limits.{Bounds, bounds_behind, every_number, byte_bounds, keyword_bounds, is_outside}
+use Rattle.cd_grammar.specs.Limits.{literal_limit, Bounds, bounds_behind, every_number, byte_bounds, keyword_bounds, is_outside}
 use Rattle.cd_grammar.specs.WordTrees as tree
 use Rattle.cd_grammar.specs.Grammar as g
 use Rattle.cd_grammar.specs.CanonicalWords as canonical
@@ -72,7 +72,7 @@ scalar : (b b' : Bounds) (s : List ℕ) (c : ℕ) → Under b b' (token.Text (en
 scalar b b' s c = record {
   passes = λ m m' o o' h k p.
       let q = fewer_passes m m' o o' b (token.Text s) h k p in
-      record { tokens = q.tokens; depth = q.depth; literal = short_scalar 4096 c (omega arith); number = refl };
+      record { tokens = q.tokens; depth = q.depth; literal = short_scalar literal_limit c (omega arith); number = refl };
   level = λ _. refl;
   level_other = λ _. refl;
 }

@@ -5,6 +5,36 @@ ghost use Rattle.cd_script.specs.Reader.{bounds_of};
 
 use cd_elem::{CountedWord, Keyword, LimitKind, Sign, Token};
 
+/// How many bytes a script's text has at most.
+pub const TEXT_LIMIT: usize = 65_536;
+
+/// How many tokens it has at most.
+pub const TOKEN_LIMIT: usize = 8192;
+
+/// How many brackets are open at most.
+pub const DEPTH_LIMIT: usize = 32;
+
+/// How many bytes the value of a literal has at most.
+pub const LITERAL_LIMIT: usize = 4096;
+
+/// How many bytes a name has at most.
+pub const NAME_LIMIT: usize = 64;
+
+/// The greatest number of times that something is repeated.
+pub const REPEAT_LIMIT: u64 = 4096;
+
+/// The greatest length of pieces.
+pub const LENGTH_LIMIT: u64 = 65_536;
+
+/// The greatest number of elements or pieces that are collected.
+pub const COLLECT_LIMIT: u64 = 16_777_216;
+
+/// The greatest byte.
+pub const BYTE_LIMIT: u64 = 255;
+
+/// The greatest number of copies of a piece.
+pub const COPY_LIMIT: u64 = 1_099_511_627_776;
+
 /// The numbers that may stand in a place, both ends included.
 #[derive(Clone, Copy)]
 pub struct Bounds {
@@ -32,7 +62,7 @@ fn length_bounds() -> Bounds
 {
     Bounds {
         least: 1,
-        most: 65_536,
+        most: LENGTH_LIMIT,
     }
 }
 
@@ -41,13 +71,13 @@ fn counted_bounds(word: CountedWord) -> Bounds
 {
     match word {
         CountedWord::TakeE => every_number(),
-        CountedWord::RepeatE => up_to(4096),
+        CountedWord::RepeatE => up_to(REPEAT_LIMIT),
         CountedWord::DropE => every_number(),
-        CountedWord::CollectE => up_to(16_777_216),
+        CountedWord::CollectE => up_to(COLLECT_LIMIT),
         CountedWord::Take => every_number(),
-        CountedWord::Repeat => up_to(4096),
+        CountedWord::Repeat => up_to(REPEAT_LIMIT),
         CountedWord::Drop => every_number(),
-        CountedWord::Collect => up_to(16_777_216),
+        CountedWord::Collect => up_to(COLLECT_LIMIT),
         CountedWord::Lines => length_bounds(),
         CountedWord::Exact => length_bounds(),
         CountedWord::ChunksOf => length_bounds(),
@@ -59,8 +89,8 @@ fn keyword_bounds(word: Keyword) -> Bounds
 {
     match word {
         Keyword::Counted(word) => counted_bounds(word),
-        Keyword::NumberMap(_) => up_to(255),
-        Keyword::Replicate => up_to(1_099_511_627_776),
+        Keyword::NumberMap(_) => up_to(BYTE_LIMIT),
+        Keyword::Replicate => up_to(COPY_LIMIT),
         _ => every_number(),
     }
 }
@@ -122,8 +152,8 @@ fn is_too_long(token: &Token) -> bool
     ensures { result ≡ spec.is_too_long token.now }
 {
     match token {
-        Token::Text(text) => text.as_str().len() > 4096,
-        Token::Named(name) => name.as_str().len() > 64,
+        Token::Text(text) => text.as_str().len() > LITERAL_LIMIT,
+        Token::Named(name) => name.as_str().len() > NAME_LIMIT,
         _ => false,
     }
 }
@@ -142,10 +172,10 @@ fn is_outside(bounds: Bounds, token: &Token) -> bool
 pub fn limit_of(count: usize, opened: usize, bounds: Bounds, token: &Token) -> Option<LimitKind>
     ensures { result ≡ spec.limit_of count opened (bounds_of bounds) token.now }
 {
-    if count >= 8192 {
+    if count >= TOKEN_LIMIT {
         return Some(LimitKind::Tokens);
     }
-    if opened >= 32 && opens_bracket(token) {
+    if opened >= DEPTH_LIMIT && opens_bracket(token) {
         return Some(LimitKind::Depth);
     }
     if is_too_long(token) {

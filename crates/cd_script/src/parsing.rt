@@ -2,6 +2,7 @@
 ghost use Rattle.std.specs.Prelude.{◌≤◌, List, length, IfOk};
 ghost use Rattle.cd_elem.specs.declared.script.Stmt.{Stmt};
 ghost use Rattle.cd_grammar.specs.Canonical.{IsTreeWithin};
+ghost use Rattle.cd_grammar.specs.Limits.{text_limit};
 ghost use Rattle.cd_grammar.specs.Refusals.{IsText};
 ghost use Rattle.cd_script.specs.Answers.{AnswersOnly, Parses};
 
@@ -11,9 +12,9 @@ use cd_elem::{NoMemory, Script};
 use cd_lex::lex;
 use std::alloc::Global;
 
-/// The tree of a text of at most 65,536 bytes, or the first token that is refused.
+/// The tree of a text of at most `TEXT_LIMIT` bytes, or the first token that is refused.
 pub fn parse(alloc: Global, text: &str) -> Result<Script, ScriptRefusal>
-    requires { length text.now ≤ 65536 }
+    requires { length text.now ≤ text_limit }
     // A tree is that of this text, and a refusal is the first one.
     ensures exact { Parses text.now result }
     // A script within the limits is read, unless memory runs out.

@@ -22,7 +22,7 @@ fn push_line(alloc: Global, text: &mut String, statement: &Stmt) -> Result<(), N
 }
 
 /// The canonical text of a tree that is within the limits. It is a script with the same tree, so `parse` reads it back
-/// where it has at most 65,536 bytes.
+/// where it has at most `TEXT_LIMIT` bytes.
 pub fn print(alloc: Global, script: &Script) -> Result<String, NoMemory>
     requires { IsTreeWithin script.now }
     ensures canonical { IfOk result (λ text. string_bytes text ≡ canonical_text script.now) }

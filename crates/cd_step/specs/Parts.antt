@@ -1,5 +1,6 @@
 -- What is seen of a part, and what each input and each move say of it.
 use Rattle.std.specs.Prelude.{◌≡◌, ℕ, ◌==◌, ◌<◌, ◌≤◌, ◌+◌, Bool, true, false, List, [], ◌∷◌, ◌++◌, length, map, Option, Some, None}
+use Rattle.cd_elem.specs.Limits.{chunk_limit}
 use Rattle.cd_elem.specs.declared.kind.Kind.{Kind}
 use Rattle.cd_elem.specs.declared.kind.Kind.TheVariants.{Bytes, Chars, Blocks, Texts}
 use Rattle.cd_elem.specs.declared.value.Value.{Value as Result}
@@ -61,14 +62,10 @@ weight_any (Some c) = weight c
 
 -- ---- kinds
 
--- one chunk of a cut kind
-abbrev pub cut_chunk : ℕ
-cut_chunk = 65536
-
 -- what one chunk of this kind counts at most, its sort, and whether it is one piece
 abbrev pub chunk_at : Kind → ℕ
-chunk_at Bytes = cut_chunk
-chunk_at Chars = cut_chunk
+chunk_at Bytes = chunk_limit
+chunk_at Chars = chunk_limit
 chunk_at (Blocks m) = m + 1
 chunk_at (Texts m) = m + 1
 

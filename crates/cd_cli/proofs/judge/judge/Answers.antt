@@ -3,8 +3,8 @@ use Rattle.std.specs.Str.{IsValidUpTo}
 use Rattle.cd_cli.proofs.JudgeSteps.{long_has_none, broken_has_none, judged_err, read_has_tree, read_has_none}
 use Rattle.cd_cli.proofs.judge.judge.Goals as goal
 
-pub returns-then-text-gt-SCRIPT_MAX-clause-judged : goal.returns-then-text-gt-SCRIPT_MAX-clause-judged
-returns-then-text-gt-SCRIPT_MAX-clause-judged c = inr (long_has_none c.args.text.now c.if-text-gt-SCRIPT_MAX.true)
+pub returns-then-text-gt-TEXT_LIMIT-clause-judged : goal.returns-then-text-gt-TEXT_LIMIT-clause-judged
+returns-then-text-gt-TEXT_LIMIT-clause-judged c = inr (long_has_none c.args.text.now c.if-text-gt-TEXT_LIMIT.true)
 
 pub returns-in_err-parse-in-Ok-clause-judged : goal.returns-in_err-parse-in-Ok-clause-judged
 returns-in_err-parse-in-Ok-clause-judged c =
