@@ -32,8 +32,8 @@ use Rattle.cd_parser.specs.declared.state.Position.TheVariants as position
 use Rattle.cd_parser.specs.declared.state.ParserState.{ParserState}
 use Rattle.std.specs.Str.{chars}
 use Rattle.cd_grammar.specs.Grammar.{one_scalar}
-use Rattle.cd_parser.specs.Machine.{state_within, next, step, after_extension_if_any, end_with_scalar, split_at}
-use Rattle.cd_parser.proofs.Complete.{done}
+use Rattle.cd_parser.specs.Machine.{open_pipe, done, advance, next, step, after_extension_if_any, end_with_scalar, split_at}
+use Rattle.cd_parser.proofs.Complete.{state_within}
 
 pub record Finishes (s : ParserState) : Type 0 where
   pub more : List Token
@@ -97,7 +97,7 @@ module _ (ls : List Level) (ss : List Stmt) (o : Owner) (ch : Chain) where
   extend (head.Counted w) = last (head.Counted w) zero_token _ refl
   extend (head.Classed w) = last (head.Classed w) (token.Word (keyword.Class class.Digit)) _ refl
   extend (head.ClassedNot w) = last (head.ClassedNot w) (token.Word (keyword.Class class.Digit)) _ refl
-  extend (head.Is w n) = last (head.Is w n) an_a _ (ap (λ x. after_extension_if_any ss o ls ch (end_with_scalar w n x)) one-a)
+  extend (head.Is w n) = last (head.Is w n) an_a _ (ap (λ x. advance ss (after_extension_if_any (open_pipe o ls ch) (end_with_scalar w n x))) one-a)
   extend (head.Below w n) = last (head.Below w n) zero_token _ refl
   extend (head.Tested w) = last (head.Tested w) (token.Word keyword.Empty) _ refl
   extend (head.TestedNot w) = last (head.TestedNot w) (token.Word keyword.Empty) _ refl
@@ -109,7 +109,7 @@ module _ (ls : List Level) (ss : List Stmt) (o : Owner) (ch : Chain) where
   extend (head.EndMap m) = last (head.EndMap m) an_a _ refl
   extend (head.Literal w) = last (head.Literal w) an_a _ refl
   extend (head.File w) = last (head.File w) an_a _ refl
-  extend head.Split = past _ an_a _ (ap (λ x. after_extension_if_any ss o ls ch (split_at x)) one-a) (last (head.SplitAt 97) zero_token _ refl)
+  extend head.Split = past _ an_a _ (ap (λ x. advance ss (after_extension_if_any (open_pipe o ls ch) (split_at x))) one-a) (last (head.SplitAt 97) zero_token _ refl)
   extend (head.SplitAt c) = last (head.SplitAt c) zero_token _ refl
   extend (head.List w) = past _ (token.Sign sign.OpenSquare) _ refl (last (head.ListOpen w) (token.Sign sign.CloseSquare) _ refl)
   extend (head.ListOpen w) = last (head.ListOpen w) (token.Sign sign.CloseSquare) _ refl
@@ -163,7 +163,7 @@ module _ (ss : List Stmt) where
   placed (position.Holding n) = read_mark n
   placed (position.Marking n) = read_held_file n
   placed (position.Marked n f) = begin_mark n f
-  placed (position.Inside i) = needed i.levels ss i.owner i.chain i.expected
+  placed (position.Inside i n) = needed i.levels ss i.owner i.chain n
 
 pub finishes : (s : ParserState) → Finishes s
 finishes s = placed s.statements s.position

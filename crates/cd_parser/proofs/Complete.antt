@@ -24,12 +24,17 @@ use Rattle.cd_parser.specs.declared.state.Frame.{Frame}
 use Rattle.cd_parser.specs.declared.state.Frame.TheVariants as frame
 use Rattle.cd_parser.specs.declared.state.Level.{Level}
 use Rattle.cd_parser.specs.declared.state.Head.TheVariants as head
+use Rattle.cd_parser.specs.declared.state.Expected.{Expected}
 use Rattle.cd_parser.specs.declared.state.Expected.TheVariants as expected
 use Rattle.cd_parser.specs.declared.state.Position.TheVariants as position
 use Rattle.cd_parser.specs.declared.state.ParserState.{ParserState}
 use Rattle.cd_grammar.specs.Grammar as g
 use Rattle.cd_grammar.specs.WordTrees as t
-use Rattle.cd_parser.specs.Machine.{state_within, close_chain, start, next, state_behind, after_join_if_any, owned_statement, after_extension_if_any, is_same_join, end_with_scalar, split_at}
+use Rattle.cd_parser.specs.Machine.{open_pipe, close_chain, done, advance, start, next, state_behind, after_join_if_any, owned_statement, after_extension_if_any, is_same_join, end_with_scalar, split_at}
+
+-- the state in a pipe
+abbrev pub state_within : List Stmt → Owner → List Level → Chain → Expected → ParserState
+state_within ss o ls ch n = record { statements = ss; position = position.Inside (open_pipe o ls ch) n }
 
 abbrev pub chain_of : g.PipeForm → Chain
 chain_of (g.One p) = chain.Alone
@@ -81,10 +86,10 @@ module _ (ss : List Stmt) (o : Owner) (ls : List Level) (ch : Chain) where
   -- a literal of one character
   is_one : (w : ClassedWord) (negated : Bool) (c : g.Character)
       → next (Some (state_within ss o ls ch (expected.Further (head.Is w negated)))) (token.Text c.text) ≡ Some (state_within ss o ls ch (expected.Ended (pipe.Word (t.classed_word w (t.class_of negated (g.class_name (g.Is c)))))))
-  is_one w negated c = ap (λ x. after_extension_if_any ss o ls ch (end_with_scalar w negated x)) c.one
+  is_one w negated c = ap (λ x. advance ss (after_extension_if_any (open_pipe o ls ch) (end_with_scalar w negated x))) c.one
 
   split_one : (c : g.Character) → next (Some (state_within ss o ls ch (expected.Further head.Split))) (token.Text c.text) ≡ Some (state_within ss o ls ch (expected.Further (head.SplitAt c.scalar)))
-  split_one c = ap (λ x. after_extension_if_any ss o ls ch (split_at x)) c.one
+  split_one c = ap (λ x. advance ss (after_extension_if_any (open_pipe o ls ch) (split_at x))) c.one
 
   over_word : (w : g.WordForm) → fold next (Some (state_within ss o ls ch expected.Part)) (g.word_tokens w) ≡ Some (state_within ss o ls ch (expected.Ended (pipe.Word (g.word_tree w))))
   over_word (g.Plain w) = refl
@@ -211,7 +216,7 @@ mutual
       (fold-append next (Some (state_within ss o ls chain.Alone expected.Part)) (g.parts_tokens j ps) (g.operator j ∷ g.part_tokens p)
       ∙ ap (λ s. fold next s (g.part_tokens p)) (over_parts ps j ss o ls)
       ∙ over_part p ss o ls (chain.Joined j (g.parts_trees ps)))
-      ∙ ap (λ b. after_join_if_any ss o ls (if b then Some (chain.Joined j (g.parts_trees ps ++ g.part_tree p ∷ [])) else None)) (same_join-refl j)
+      ∙ ap (λ b. advance ss (after_join_if_any o ls (if b then Some (chain.Joined j (g.parts_trees ps ++ g.part_tree p ∷ [])) else None))) (same_join-refl j)
 
   pub over_wholes : (ps : g.PipesForm) (ss : List Stmt) (o : Owner) (ls : List Level) (ch : Chain)
       → fold next (Some (state_within ss o (level (frame.Braces []) ch ∷ ls) chain.Alone expected.Part)) (g.pipes_tokens ps)
@@ -222,9 +227,6 @@ mutual
       ∙ ap (λ s. fold next (next s (token.Sign sign.Semicolon)) (g.pipe_tokens q)) (over_wholes ps ss o ls ch)
       ∙ ap (λ r. fold next (Some (state_within ss o (level (frame.Braces r) ch ∷ ls) chain.Alone expected.Part)) (g.pipe_tokens q)) (closed_wholes ps)
       ∙ over_whole q ss o (level (frame.Braces (g.pipes_trees ps)) ch ∷ ls)
-
-abbrev pub done : List Stmt → ParserState
-done ss = record { statements = ss; position = position.Between }
 
 -- a pipe and the semicolon of its statement
 over_pipe : (q : g.PipeForm) (ss : List Stmt) (o : Owner)

@@ -6,8 +6,8 @@ use Rattle.cd_elem.specs.declared.script.Stmt.{Stmt}
 use Rattle.cd_elem.specs.declared.token.Token.{Token}
 use Rattle.cd_grammar.specs.Grammar as g
 use Rattle.cd_parser.specs.declared.state.ParserState.{ParserState}
-use Rattle.cd_parser.specs.Machine.{next, state_behind, start}
-use Rattle.cd_parser.proofs.Complete.{over_script, done}
+use Rattle.cd_parser.specs.Machine.{next, state_behind, start, done}
+use Rattle.cd_parser.proofs.Complete.{over_script}
 use Rattle.cd_parser.proofs.CanFinish.{finishes}
 use Rattle.cd_parser.proofs.Sound.{is_script}
 

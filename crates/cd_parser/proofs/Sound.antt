@@ -21,14 +21,17 @@ use Rattle.cd_parser.specs.declared.state.Owner.TheVariants as owner
 use Rattle.cd_parser.specs.declared.state.Chain.{Chain}
 use Rattle.cd_parser.specs.declared.state.Chain.TheVariants as chain
 use Rattle.cd_parser.specs.declared.state.Expected.TheVariants as expected
+use Rattle.cd_parser.specs.declared.state.OpenPipe.{OpenPipe}
+use Rattle.cd_parser.specs.declared.state.Progress.{Progress}
+use Rattle.cd_parser.specs.declared.state.Progress.TheVariants as progress
 use Rattle.cd_parser.specs.declared.state.ParserState.{ParserState}
 use Rattle.cd_parser.specs.declared.state.Extension.{Extension}
 use Rattle.cd_parser.specs.declared.state.Exit.{Exit}
 use Rattle.cd_parser.specs.declared.state.Exit.TheVariants as exits
 use Rattle.cd_grammar.specs.Grammar as g
 use Rattle.cd_parser.specs.Machine as m
-use Rattle.cd_parser.specs.Machine.{next, state_behind, start, is_same_join}
-use Rattle.cd_parser.proofs.Complete.{done, block_of}
+use Rattle.cd_parser.specs.Machine.{next, state_behind, start, done, is_same_join}
+use Rattle.cd_parser.proofs.Complete.{block_of, state_within}
 use Rattle.cd_parser.proofs.StateForms.{ChainForm, Alone, Joined, FrameForm, Parens, Braces, More, Blocked, InTee, ZipFirst, ZipSecond, LevelForm, ExpectedForm, Needs, Further, Ended, ZipText, ZipEnd, PositionForm, Between, Opened, Named, Sealing, Holding, Marking, Marked, Inside, ParserStateForm, chain_tree, frame_tree, levels_tree, expected_tree, position_tree, state_tree, chain_tokens, frame_tokens, levels_tokens, expected_tokens, owner_tokens, position_tokens, state_tokens, zip_source}
 use Rattle.cd_parser.proofs.Extensions.{ExtensionForm, Goes, Ends, Opens, Extends, extension_tree, extension_tokens, never, begin_part, extend}
 
@@ -121,12 +124,19 @@ record After (s : ParserState) (ts : List Token) : Type 0 where
 moved : {s : ParserState} {ts us : List Token} → After s ts → ts ≡ us → After s us
 moved a e = record { form = a.form; tree = a.tree; tokens = a.tokens ∙ e }
 
+-- the state behind this, with the statements before
+abbrev advanced : List g.StatementForm → Option Progress → Option ParserState
+advanced ss = m.advance (g.script_tree ss)
+
+abbrev open_tree : Owner → List LevelForm → ChainForm → OpenPipe
+open_tree o ls ch = m.open_pipe o (levels_tree ls) (chain_tree ch)
+
 -- the state with this place behind these statements
 placed : (ss : List g.StatementForm) (p : PositionForm) (ts : List Token) (s : ParserState) → Some (position_tree (g.script_tree ss) p) ≡ Some s → position_tokens p ≡ ts → After s (g.script_tokens ss ++ ts)
 placed ss p ts s e f = record { form = record { before = ss; position = p }; tree = cc; tokens = ap (λ us. g.script_tokens ss ++ us) f }
 
 -- the state behind one more statement
-one_more : (ss : List g.StatementForm) (r : g.StatementForm) (s : ParserState) → Some (m.end_statement (g.script_tree ss) (g.statement_tree r)) ≡ Some s → After s (g.script_tokens ss ++ g.statement_tokens r)
+one_more : (ss : List g.StatementForm) (r : g.StatementForm) (s : ParserState) → advanced ss (Some (progress.Ends (g.statement_tree r))) ≡ Some s → After s (g.script_tokens ss ++ g.statement_tokens r)
 one_more ss r s e = record { form = record { before = r ∷ ss; position = Between }; tree = cc; tokens = simp append-nil }
 
 module _ (ss : List g.StatementForm) (o : Owner) where
@@ -135,44 +145,44 @@ module _ (ss : List g.StatementForm) (o : Owner) where
   inside ls ch ts = g.script_tokens ss ++ (owner_tokens o ++ levels_tokens ls ++ chain_tokens ch ++ ts)
 
   after_extension : (u : ExtensionForm) (ls : List LevelForm) (ch : ChainForm) (s : ParserState)
-      → Some (m.after_extension (g.script_tree ss) o (levels_tree ls) (chain_tree ch) (extension_tree u)) ≡ Some s → After s (inside ls ch (extension_tokens u))
+      → advanced ss (Some (m.after_extension (open_tree o ls ch) (extension_tree u))) ≡ Some s → After s (inside ls ch (extension_tokens u))
   after_extension (Goes h) ls ch s e = record { form = record { before = ss; position = Inside o ls ch (Further h) }; tree = cc; tokens = refl }
   after_extension (Ends w) ls ch s e = record { form = record { before = ss; position = Inside o ls ch (Ended (g.OfWord w)) }; tree = cc; tokens = refl }
   after_extension (Opens f) ls ch s e = record { form = record { before = ss; position = Inside o (record { frame = f; outer = ch } ∷ ls) Alone Needs }; tree = cc; tokens = simp (append_assoc, append-nil) }
 
   after_extension_if_any : (ls : List LevelForm) (ch : ChainForm) (extension : Option Extension) (ts : List Token) (s : ParserState)
       → ((u : Extension) → extension ≡ Some u → Extends u ts)
-      → m.after_extension_if_any (g.script_tree ss) o (levels_tree ls) (chain_tree ch) extension ≡ Some s → After s (inside ls ch ts)
+      → advanced ss (m.after_extension_if_any (open_tree o ls ch) extension) ≡ Some s → After s (inside ls ch ts)
   after_extension_if_any ls ch None ts s h e = absurd (never e)
   after_extension_if_any ls ch (Some u) ts s h e =
       let x = h u refl in
-      moved (after_extension x.form ls ch s (ap (λ v. Some (m.after_extension (g.script_tree ss) o (levels_tree ls) (chain_tree ch) v)) x.tree ∙ e)) (ap (inside ls ch) x.tokens)
+      moved (after_extension x.form ls ch s (ap (λ v. advanced ss (Some (m.after_extension (open_tree o ls ch) v))) x.tree ∙ e)) (ap (inside ls ch) x.tokens)
 
   after_join_if_any : (ls : List LevelForm) (ch : Option Chain) (ts : List Token) (s : ParserState)
       → ((c : Chain) → ch ≡ Some c → Joins c ts)
-      → m.after_join_if_any (g.script_tree ss) o (levels_tree ls) ch ≡ Some s → After s (g.script_tokens ss ++ (owner_tokens o ++ levels_tokens ls ++ ts))
+      → advanced ss (m.after_join_if_any o (levels_tree ls) ch) ≡ Some s → After s (g.script_tokens ss ++ (owner_tokens o ++ levels_tokens ls ++ ts))
   after_join_if_any ls None ts s h e = absurd (never e)
   after_join_if_any ls (Some c) ts s h e =
       let x = h c refl in
       record {
         form = record { before = ss; position = Inside o ls x.form Needs };
-        tree = ap (λ c. m.state_within (g.script_tree ss) o (levels_tree ls) c expected.Part) x.tree ∙ cc;
+        tree = ap (λ c. state_within (g.script_tree ss) o (levels_tree ls) c expected.Part) x.tree ∙ cc;
         tokens = rw x.tokens (simp append-nil);
       }
 
   exited : (x : ExitForm) (ls : List LevelForm) (outer : ChainForm) (s : ParserState)
-      → m.after_exit_if_any (g.script_tree ss) o (levels_tree ls) (chain_tree outer) (Some (exit_tree x)) ≡ Some s → After s (inside ls outer (exit_tokens x))
+      → advanced ss (m.after_exit_if_any (open_tree o ls outer) (Some (exit_tree x))) ≡ Some s → After s (inside ls outer (exit_tokens x))
   exited (Stays f) ls outer s e = record { form = record { before = ss; position = Inside o (record { frame = f; outer = outer } ∷ ls) Alone Needs }; tree = cc; tokens = simp (append_assoc, append-nil) }
   exited (Closes p) ls outer s e = record { form = record { before = ss; position = Inside o ls outer (Ended p) }; tree = cc; tokens = refl }
   exited (Asks p q) ls outer s e = record { form = record { before = ss; position = Inside o ls outer (ZipText p q) }; tree = cc; tokens = refl }
 
   after_exit_if_any : (ls : List LevelForm) (outer : ChainForm) (exit : Option Exit) (ts : List Token) (s : ParserState)
       → ((x : Exit) → exit ≡ Some x → Exits x ts)
-      → m.after_exit_if_any (g.script_tree ss) o (levels_tree ls) (chain_tree outer) exit ≡ Some s → After s (inside ls outer ts)
+      → advanced ss (m.after_exit_if_any (open_tree o ls outer) exit) ≡ Some s → After s (inside ls outer ts)
   after_exit_if_any ls outer None ts s h e = absurd (never e)
   after_exit_if_any ls outer (Some x) ts s h e =
       let y = h x refl in
-      moved (exited y.form ls outer s (ap (λ v. m.after_exit_if_any (g.script_tree ss) o (levels_tree ls) (chain_tree outer) (Some v)) y.tree ∙ e)) (ap (inside ls outer) y.tokens)
+      moved (exited y.form ls outer s (ap (λ v. advanced ss (m.after_exit_if_any (open_tree o ls outer) (Some v))) y.tree ∙ e)) (ap (inside ls outer) y.tokens)
 
 -- the sentence of this owner
 abbrev sentence : Owner → g.PipeForm → g.StatementForm
@@ -194,13 +204,13 @@ sentence-tokens (owner.Feed n) q = refl
 sentence-tokens (owner.CloseSeal n) q = refl
 
 finish_statement : (ss : List g.StatementForm) (o : Owner) (q : g.PipeForm) (t : Sign) (s : ParserState)
-    → m.finish_statement (g.script_tree ss) o (g.pipe_tree q) t ≡ Some s → After s (g.script_tokens ss ++ (owner_tokens o ++ g.pipe_tokens q ++ token.Sign t ∷ []))
+    → advanced ss (m.finish_statement o (g.pipe_tree q) t) ≡ Some s → After s (g.script_tokens ss ++ (owner_tokens o ++ g.pipe_tokens q ++ token.Sign t ∷ []))
 finish_statement ss o q sign.Semicolon s e =
-    moved (one_more ss (sentence o q) s (ap (λ r. Some (m.end_statement (g.script_tree ss) r)) (sentence-tree o q) ∙ e)) (ap (λ ts. g.script_tokens ss ++ ts) (sentence-tokens o q))
+    moved (one_more ss (sentence o q) s (ap (λ r. advanced ss (Some (progress.Ends r))) (sentence-tree o q) ∙ e)) (ap (λ ts. g.script_tokens ss ++ ts) (sentence-tokens o q))
 finish_statement ss o q _ s e = absurd (never e)
 
 end_pipe : (ls : List LevelForm) (ss : List g.StatementForm) (o : Owner) (q : g.PipeForm) (t : Sign) (s : ParserState)
-    → m.end_pipe (g.script_tree ss) o (levels_tree ls) (g.pipe_tree q) t ≡ Some s
+    → advanced ss (m.end_pipe o (levels_tree ls) (g.pipe_tree q) t) ≡ Some s
     → After s (g.script_tokens ss ++ (owner_tokens o ++ levels_tokens ls ++ g.pipe_tokens q ++ token.Sign t ∷ []))
 end_pipe [] ss o q t s e = moved (finish_statement ss o q t s e) (simp append-nil)
 end_pipe (l ∷ ls) ss o q t s e = moved (after_exit_if_any ss o ls l.outer _ _ s (leave_bracket l.frame q t) e) (simp append_assoc)
@@ -219,10 +229,10 @@ whole_of-tokens Alone p = refl
 whole_of-tokens (Joined j ps) p = simp append_assoc
 
 closing : (ss : List g.StatementForm) (o : Owner) (ls : List LevelForm) (ch : ChainForm) (p : g.PartForm) (t : Sign) (s : ParserState)
-    → m.end_pipe (g.script_tree ss) o (levels_tree ls) (m.close_chain (chain_tree ch) (g.part_tree p)) t ≡ Some s
+    → advanced ss (m.end_pipe o (levels_tree ls) (m.close_chain (chain_tree ch) (g.part_tree p)) t) ≡ Some s
     → After s (g.script_tokens ss ++ (owner_tokens o ++ levels_tokens ls ++ chain_tokens ch ++ g.part_tokens p) ++ token.Sign t ∷ [])
 closing ss o ls ch p t s e =
-    moved (end_pipe ls ss o (whole_of ch p) t s (ap (λ q. m.end_pipe (g.script_tree ss) o (levels_tree ls) q t) (whole_of-tree ch p) ∙ e))
+    moved (end_pipe ls ss o (whole_of ch p) t s (ap (λ q. advanced ss (m.end_pipe o (levels_tree ls) q t)) (whole_of-tree ch p) ∙ e))
     (rw (whole_of-tokens ch p) (simp append_assoc))
 
 operator : (t : Sign) (j : Join) → m.operator_of t ≡ Some j → t ≡ sign.Operator j
@@ -233,31 +243,31 @@ operator (sign.Operator i) j e = ap sign.Operator (ap (λ o. get i o) e) where
 operator _ j e = absurd (never e)
 
 follow_part_by : (ss : List g.StatementForm) (o : Owner) (ls : List LevelForm) (ch : ChainForm) (p : g.PartForm) (t : Sign) (s : ParserState) (j : Option Join) → m.operator_of t ≡ j
-    → m.follow_part_by (g.script_tree ss) o (levels_tree ls) (chain_tree ch) (g.part_tree p) t j ≡ Some s
+    → advanced ss (m.follow_part_by (open_tree o ls ch) (g.part_tree p) t j) ≡ Some s
     → After s (g.script_tokens ss ++ (owner_tokens o ++ levels_tokens ls ++ chain_tokens ch ++ g.part_tokens p) ++ token.Sign t ∷ [])
 follow_part_by ss o ls ch p t s None f e = closing ss o ls ch p t s e
 follow_part_by ss o ls ch p t s (Some j) f e = moved (after_join_if_any ss o ls _ _ s (join_part ch p j) e) (rw (operator t j f) (simp append_assoc))
 
 follow_part : (ss : List g.StatementForm) (o : Owner) (ls : List LevelForm) (ch : ChainForm) (p : g.PartForm) (t : Token) (s : ParserState)
-    → m.follow_part (g.script_tree ss) o (levels_tree ls) (chain_tree ch) (g.part_tree p) t ≡ Some s
+    → advanced ss (m.follow_part (open_tree o ls ch) (g.part_tree p) t) ≡ Some s
     → After s (g.script_tokens ss ++ (owner_tokens o ++ levels_tokens ls ++ chain_tokens ch ++ g.part_tokens p) ++ t ∷ [])
 follow_part ss o ls ch p (token.Sign t) s e = follow_part_by ss o ls ch p t s _ refl e
 follow_part ss o ls ch p _ s e = absurd (never e)
 
 read_zip_text : (ss : List g.StatementForm) (o : Owner) (ls : List LevelForm) (ch : ChainForm) (p q : g.PipeForm) (t : Token) (s : ParserState)
-    → m.read_zip_text (g.script_tree ss) o (levels_tree ls) (chain_tree ch) (g.pipe_tree p) (g.pipe_tree q) t ≡ Some s
+    → advanced ss (m.read_zip_text (open_tree o ls ch) (g.pipe_tree p) (g.pipe_tree q) t) ≡ Some s
     → After s (inside ss o ls ch (expected_tokens (ZipText p q) ++ t ∷ []))
 read_zip_text ss o ls ch p q (token.Text r) s e = placed ss (Inside o ls ch (ZipEnd p q r)) _ s e (simp append_assoc)
 read_zip_text ss o ls ch p q _ s e = absurd (never e)
 
 close_zip : (ss : List g.StatementForm) (o : Owner) (ls : List LevelForm) (ch : ChainForm) (p q : g.PipeForm) (r : List ℕ) (t : Token) (s : ParserState)
-    → m.close_zip (g.script_tree ss) o (levels_tree ls) (chain_tree ch) (pipe.ZipSource (g.pipe_tree p) (g.pipe_tree q) r) t ≡ Some s
+    → advanced ss (m.close_zip (open_tree o ls ch) (pipe.ZipSource (g.pipe_tree p) (g.pipe_tree q) r) t) ≡ Some s
     → After s (inside ss o ls ch (expected_tokens (ZipEnd p q r) ++ t ∷ []))
 close_zip ss o ls ch p q r (token.Sign sign.CloseParen) s e = placed ss (Inside o ls ch (Ended (g.ZipSource p q r))) _ s e (simp append_assoc)
 close_zip ss o ls ch p q r _ s e = absurd (never e)
 
 stepped_within : (n : ExpectedForm) (ss : List g.StatementForm) (o : Owner) (ls : List LevelForm) (ch : ChainForm) (t : Token) (s : ParserState)
-    → m.step_within (g.script_tree ss) o (levels_tree ls) (chain_tree ch) (expected_tree n) t ≡ Some s
+    → advanced ss (m.step_within (open_tree o ls ch) (expected_tree n) t) ≡ Some s
     → After s (g.script_tokens ss ++ (owner_tokens o ++ levels_tokens ls ++ chain_tokens ch ++ expected_tokens n) ++ t ∷ [])
 stepped_within Needs ss o ls ch t s e = moved (after_extension_if_any ss o ls ch _ _ s (begin_part t) e) (simp (append_assoc, append-nil))
 stepped_within (Further h) ss o ls ch t s e = moved (after_extension_if_any ss o ls ch _ _ s (extend h t) e) (simp append_assoc)
@@ -265,12 +275,12 @@ stepped_within (Ended p) ss o ls ch t s e = follow_part ss o ls ch p t s e
 stepped_within (ZipText p q) ss o ls ch t s e = moved (read_zip_text ss o ls ch p q t s e) (simp append_assoc)
 stepped_within (ZipEnd p q r) ss o ls ch t s e = moved (close_zip ss o ls ch p q r t s e) (simp append_assoc)
 
-begin_statement : (ss : List g.StatementForm) (k : Keyword) (s : ParserState) → m.begin_statement (g.script_tree ss) k ≡ Some s → After s (g.script_tokens ss ++ token.Word k ∷ [])
+begin_statement : (ss : List g.StatementForm) (k : Keyword) (s : ParserState) → advanced ss (m.begin_statement k) ≡ Some s → After s (g.script_tokens ss ++ token.Word k ∷ [])
 begin_statement ss keyword.Run s e = placed ss (Inside owner.Run [] Alone Needs) _ s e (simp (append_assoc, append-nil))
 begin_statement ss (keyword.Opening o) s e = placed ss (Opened o) _ s e refl
 begin_statement ss _ s e = absurd (never e)
 
-follow_name : (ss : List g.StatementForm) (o : Opening) (n : List ℕ) (t : Sign) (s : ParserState) → m.follow_name (g.script_tree ss) o n t ≡ Some s
+follow_name : (ss : List g.StatementForm) (o : Opening) (n : List ℕ) (t : Sign) (s : ParserState) → advanced ss (m.follow_name o n t) ≡ Some s
     → After s (g.script_tokens ss ++ (token.Word (keyword.Opening o) ∷ token.Named n ∷ token.Sign t ∷ []))
 follow_name ss opening.Let n sign.Equals s e = placed ss (Sealing n) _ s e refl
 follow_name ss opening.Feed n (sign.Operator join.Plain) s e = placed ss (Inside (owner.Feed n) [] Alone Needs) _ s e (simp (append_assoc, append-nil))
@@ -279,7 +289,7 @@ follow_name ss opening.Hold n sign.Equals s e = placed ss (Holding n) _ s e refl
 follow_name ss opening.Release n sign.Semicolon s e = one_more ss (g.Release n) s e
 follow_name ss _ n _ s e = absurd (never e)
 
-hold_file : (ss : List g.StatementForm) (n f : List ℕ) (s : ParserState) → m.hold_file (g.script_tree ss) n f ≡ Some s → After s (g.script_tokens ss ++ (position_tokens (Marking n) ++ token.Text f ∷ []))
+hold_file : (ss : List g.StatementForm) (n f : List ℕ) (s : ParserState) → advanced ss (m.hold_file n f) ≡ Some s → After s (g.script_tokens ss ++ (position_tokens (Marking n) ++ token.Text f ∷ []))
 hold_file ss n [] s e = absurd (never e)
 hold_file ss n (c ∷ cs) s e = placed ss (Marked n (record { first = c; rest = cs })) _ s e refl
 

@@ -32,11 +32,12 @@ use Rattle.cd_parser.specs.declared.state.Head.{Head}
 use Rattle.cd_parser.specs.declared.state.Head.TheVariants as head
 use Rattle.cd_parser.specs.declared.state.Expected.{Expected}
 use Rattle.cd_parser.specs.declared.state.Expected.TheVariants as expected
+use Rattle.cd_parser.specs.declared.state.Position.{Position}
 use Rattle.cd_parser.specs.declared.state.Position.TheVariants as position
 use Rattle.cd_parser.specs.declared.state.ParserState.{ParserState}
 use Rattle.cd_grammar.specs.Grammar as g
-use Rattle.cd_parser.specs.Machine as m
-use Rattle.cd_parser.proofs.Complete.{done, block_of}
+use Rattle.cd_parser.specs.Machine.{done}
+use Rattle.cd_parser.proofs.Complete.{block_of, state_within}
 
 pub data ChainForm : Type 0 where
   Alone : ChainForm
@@ -168,15 +169,18 @@ expected_tree (Ended p) = expected.Ended (g.part_tree p)
 expected_tree (ZipText p q) = expected.ZipText (g.pipe_tree p) (g.pipe_tree q)
 expected_tree (ZipEnd p q s) = expected.ZipEnd (g.pipe_tree p) (g.pipe_tree q) s
 
+abbrev at : List Stmt → Position → ParserState
+at ss p = record { statements = ss; position = p }
+
 abbrev pub position_tree : List Stmt → PositionForm → ParserState
 position_tree ss Between = done ss
-position_tree ss (Opened o) = m.at ss (position.Opened o)
-position_tree ss (Named o n) = m.at ss (position.Named o n)
-position_tree ss (Sealing n) = m.at ss (position.Sealing n)
-position_tree ss (Holding n) = m.at ss (position.Holding n)
-position_tree ss (Marking n) = m.at ss (position.Marking n)
-position_tree ss (Marked n f) = m.at ss (position.Marked n (g.file_name_text f))
-position_tree ss (Inside o ls ch n) = m.state_within ss o (levels_tree ls) (chain_tree ch) (expected_tree n)
+position_tree ss (Opened o) = at ss (position.Opened o)
+position_tree ss (Named o n) = at ss (position.Named o n)
+position_tree ss (Sealing n) = at ss (position.Sealing n)
+position_tree ss (Holding n) = at ss (position.Holding n)
+position_tree ss (Marking n) = at ss (position.Marking n)
+position_tree ss (Marked n f) = at ss (position.Marked n (g.file_name_text f))
+position_tree ss (Inside o ls ch n) = state_within ss o (levels_tree ls) (chain_tree ch) (expected_tree n)
 
 abbrev pub state_tree : ParserStateForm → ParserState
 state_tree s = position_tree (g.script_tree s.before) s.position

@@ -37,12 +37,15 @@ use Rattle.cd_parser.specs.declared.state.Block.TheVariants as block
 use Rattle.cd_parser.specs.declared.state.Frame.{Frame}
 use Rattle.cd_parser.specs.declared.state.Frame.TheVariants as frame
 use Rattle.cd_parser.specs.declared.state.Level.{Level}
+use Rattle.cd_parser.specs.declared.state.OpenPipe.{OpenPipe}
 use Rattle.cd_parser.specs.declared.state.Head.{Head}
 use Rattle.cd_parser.specs.declared.state.Head.TheVariants as head
 use Rattle.cd_parser.specs.declared.state.Expected.{Expected}
 use Rattle.cd_parser.specs.declared.state.Expected.TheVariants as expected
 use Rattle.cd_parser.specs.declared.state.Position.{Position}
 use Rattle.cd_parser.specs.declared.state.Position.TheVariants as position
+use Rattle.cd_parser.specs.declared.state.Progress.{Progress}
+use Rattle.cd_parser.specs.declared.state.Progress.TheVariants as progress
 use Rattle.cd_parser.specs.declared.state.ParserState.{ParserState}
 use Rattle.cd_parser.specs.declared.state.Extension.{Extension}
 use Rattle.cd_parser.specs.declared.state.Extension.TheVariants.{Goes, Ends, Opens}
@@ -188,17 +191,25 @@ extend h (token.Number n) = extend_by_number h n
 extend h (token.Text s) = extend_by_text h s
 extend h (token.Named n) = None
 
-abbrev pub state_within : List Stmt → Owner → List Level → Chain → Expected → ParserState
-state_within ss o ls ch n = record { statements = ss; position = position.Inside (record { owner = o; levels = ls; chain = ch; expected = n }) }
+abbrev pub open_pipe : Owner → List Level → Chain → OpenPipe
+open_pipe o ls ch = record { owner = o; levels = ls; chain = ch }
 
-abbrev pub after_extension : List Stmt → Owner → List Level → Chain → Extension → ParserState
-after_extension ss o ls ch (Goes h) = state_within ss o ls ch (expected.Further h)
-after_extension ss o ls ch (Ends w) = state_within ss o ls ch (expected.Ended (pipe.Word w))
-after_extension ss o ls ch (Opens f) = state_within ss o (record { frame = f; outer = ch } ∷ ls) chain.Alone expected.Part
+-- the place in this pipe where this has to come next
+abbrev pub reach : OpenPipe → Expected → Progress
+reach i n = progress.Reaches (position.Inside i n)
 
-abbrev pub after_extension_if_any : List Stmt → Owner → List Level → Chain → Option Extension → Option ParserState
-after_extension_if_any ss o ls ch None = None
-after_extension_if_any ss o ls ch (Some t) = Some (after_extension ss o ls ch t)
+-- a bracket opens in this pipe
+abbrev pub enter_bracket : OpenPipe → Frame → Progress
+enter_bracket i f = reach (open_pipe i.owner (record { frame = f; outer = i.chain } ∷ i.levels) chain.Alone) expected.Part
+
+abbrev pub after_extension : OpenPipe → Extension → Progress
+after_extension i (Goes h) = reach i (expected.Further h)
+after_extension i (Ends w) = reach i (expected.Ended (pipe.Word w))
+after_extension i (Opens f) = enter_bracket i f
+
+abbrev pub after_extension_if_any : OpenPipe → Option Extension → Option Progress
+after_extension_if_any i None = None
+after_extension_if_any i (Some u) = Some (after_extension i u)
 
 abbrev pub is_same_join : Join → Join → Bool
 is_same_join join.Plain join.Plain = true
@@ -214,9 +225,9 @@ abbrev pub join_part : Chain → Join → Pipe → Option Chain
 join_part chain.Alone j p = Some (chain.Joined j (p ∷ []))
 join_part (chain.Joined i ps) j p = if is_same_join i j then Some (chain.Joined i (ps ++ p ∷ [])) else None
 
-abbrev pub after_join_if_any : List Stmt → Owner → List Level → Option Chain → Option ParserState
-after_join_if_any ss o ls None = None
-after_join_if_any ss o ls (Some ch) = Some (state_within ss o ls ch expected.Part)
+abbrev pub after_join_if_any : Owner → List Level → Option Chain → Option Progress
+after_join_if_any o ls None = None
+after_join_if_any o ls (Some ch) = Some (reach (open_pipe o ls ch) expected.Part)
 
 -- a pipe that ends with this part
 abbrev pub close_chain : Chain → Pipe → Pipe
@@ -252,94 +263,100 @@ leave_bracket (frame.ZipFirst z) p sign.Comma = Some (Stays (frame.ZipSecond z p
 leave_bracket (frame.ZipSecond z q) p s = leave_zip z q p s
 leave_bracket _ p _ = None
 
-abbrev pub after_exit_if_any : List Stmt → Owner → List Level → Chain → Option Exit → Option ParserState
-after_exit_if_any ss o ls outer None = None
-after_exit_if_any ss o ls outer (Some (Stays f)) = Some (state_within ss o (record { frame = f; outer = outer } ∷ ls) chain.Alone expected.Part)
-after_exit_if_any ss o ls outer (Some (Closes p)) = Some (state_within ss o ls outer (expected.Ended p))
-after_exit_if_any ss o ls outer (Some (Asks q p)) = Some (state_within ss o ls outer (expected.ZipText q p))
-
-abbrev pub end_statement : List Stmt → Stmt → ParserState
-end_statement ss s = record { statements = ss ++ s ∷ []; position = position.Between }
+-- the pipe around the bracket
+abbrev pub after_exit_if_any : OpenPipe → Option Exit → Option Progress
+after_exit_if_any i None = None
+after_exit_if_any i (Some (Stays f)) = Some (enter_bracket i f)
+after_exit_if_any i (Some (Closes p)) = Some (reach i (expected.Ended p))
+after_exit_if_any i (Some (Asks q p)) = Some (reach i (expected.ZipText q p))
 
 -- the statement has ended, if this is its semicolon
-abbrev pub finish_statement : List Stmt → Owner → Pipe → Sign → Option ParserState
-finish_statement ss o p sign.Semicolon = Some (end_statement ss (owned_statement o p))
-finish_statement ss o p _ = None
+abbrev pub finish_statement : Owner → Pipe → Sign → Option Progress
+finish_statement o p sign.Semicolon = Some (progress.Ends (owned_statement o p))
+finish_statement o p _ = None
 
 -- a pipe has ended
-abbrev pub end_pipe : List Stmt → Owner → List Level → Pipe → Sign → Option ParserState
-end_pipe ss o [] p s = finish_statement ss o p s
-end_pipe ss o (l ∷ ls) p s = after_exit_if_any ss o ls l.outer (leave_bracket l.frame p s)
+abbrev pub end_pipe : Owner → List Level → Pipe → Sign → Option Progress
+end_pipe o [] p s = finish_statement o p s
+end_pipe o (l ∷ ls) p s = after_exit_if_any (open_pipe o ls l.outer) (leave_bracket l.frame p s)
 
 abbrev pub operator_of : Sign → Option Join
 operator_of (sign.Operator j) = Some j
 operator_of _ = None
 
 -- a part has ended, and this sign stands behind it
-abbrev pub follow_part_by : List Stmt → Owner → List Level → Chain → Pipe → Sign → Option Join → Option ParserState
-follow_part_by ss o ls ch p s None = end_pipe ss o ls (close_chain ch p) s
-follow_part_by ss o ls ch p s (Some j) = after_join_if_any ss o ls (join_part ch j p)
+abbrev pub follow_part_by : OpenPipe → Pipe → Sign → Option Join → Option Progress
+follow_part_by i p s None = end_pipe i.owner i.levels (close_chain i.chain p) s
+follow_part_by i p s (Some j) = after_join_if_any i.owner i.levels (join_part i.chain j p)
 
-abbrev pub follow_part : List Stmt → Owner → List Level → Chain → Pipe → Token → Option ParserState
-follow_part ss o ls ch p (token.Sign s) = follow_part_by ss o ls ch p s (operator_of s)
-follow_part ss o ls ch p _ = None
+abbrev pub follow_part : OpenPipe → Pipe → Token → Option Progress
+follow_part i p (token.Sign s) = follow_part_by i p s (operator_of s)
+follow_part i p _ = None
 
-abbrev pub read_zip_text : List Stmt → Owner → List Level → Chain → Pipe → Pipe → Token → Option ParserState
-read_zip_text ss o ls ch q p (token.Text s) = Some (state_within ss o ls ch (expected.ZipEnd q p s))
-read_zip_text ss o ls ch q p _ = None
+abbrev pub read_zip_text : OpenPipe → Pipe → Pipe → Token → Option Progress
+read_zip_text i q p (token.Text s) = Some (reach i (expected.ZipEnd q p s))
+read_zip_text i q p _ = None
 
-abbrev pub close_zip : List Stmt → Owner → List Level → Chain → Pipe → Token → Option ParserState
-close_zip ss o ls ch p (token.Sign sign.CloseParen) = Some (state_within ss o ls ch (expected.Ended p))
-close_zip ss o ls ch p _ = None
+abbrev pub close_zip : OpenPipe → Pipe → Token → Option Progress
+close_zip i p (token.Sign sign.CloseParen) = Some (reach i (expected.Ended p))
+close_zip i p _ = None
 
-abbrev pub step_within : List Stmt → Owner → List Level → Chain → Expected → Token → Option ParserState
-step_within ss o ls ch expected.Part t = after_extension_if_any ss o ls ch (begin_part t)
-step_within ss o ls ch (expected.Further h) t = after_extension_if_any ss o ls ch (extend h t)
-step_within ss o ls ch (expected.Ended p) t = follow_part ss o ls ch p t
-step_within ss o ls ch (expected.ZipText q p) t = read_zip_text ss o ls ch q p t
-step_within ss o ls ch (expected.ZipEnd q p s) t = close_zip ss o ls ch (pipe.ZipSource q p s) t
+abbrev pub step_within : OpenPipe → Expected → Token → Option Progress
+step_within i expected.Part t = after_extension_if_any i (begin_part t)
+step_within i (expected.Further h) t = after_extension_if_any i (extend h t)
+step_within i (expected.Ended p) t = follow_part i p t
+step_within i (expected.ZipText q p) t = read_zip_text i q p t
+step_within i (expected.ZipEnd q p s) t = close_zip i (pipe.ZipSource q p s) t
 
-abbrev pub begin_pipe : List Stmt → Owner → ParserState
-begin_pipe ss o = state_within ss o [] chain.Alone expected.Part
-
-abbrev pub at : List Stmt → Position → ParserState
-at ss p = record { statements = ss; position = p }
+abbrev pub begin_pipe : Owner → Progress
+begin_pipe o = reach (open_pipe o [] chain.Alone) expected.Part
 
 -- a word between two statements
-abbrev pub begin_statement : List Stmt → Keyword → Option ParserState
-begin_statement ss keyword.Run = Some (begin_pipe ss owner.Run)
-begin_statement ss (keyword.Opening o) = Some (at ss (position.Opened o))
-begin_statement ss _ = None
+abbrev pub begin_statement : Keyword → Option Progress
+begin_statement keyword.Run = Some (begin_pipe owner.Run)
+begin_statement (keyword.Opening o) = Some (progress.Reaches (position.Opened o))
+begin_statement _ = None
 
 -- a sign behind the name of a statement
-abbrev pub follow_name : List Stmt → Opening → List ℕ → Sign → Option ParserState
-follow_name ss opening.Let n sign.Equals = Some (at ss (position.Sealing n))
-follow_name ss opening.Feed n (sign.Operator join.Plain) = Some (begin_pipe ss (owner.Feed n))
-follow_name ss opening.Close n (sign.Operator join.Plain) = Some (begin_pipe ss (owner.CloseSeal n))
-follow_name ss opening.Hold n sign.Equals = Some (at ss (position.Holding n))
-follow_name ss opening.Release n sign.Semicolon = Some (end_statement ss (stmt.Release n))
-follow_name ss _ n _ = None
+abbrev pub follow_name : Opening → List ℕ → Sign → Option Progress
+follow_name opening.Let n sign.Equals = Some (progress.Reaches (position.Sealing n))
+follow_name opening.Feed n (sign.Operator join.Plain) = Some (begin_pipe (owner.Feed n))
+follow_name opening.Close n (sign.Operator join.Plain) = Some (begin_pipe (owner.CloseSeal n))
+follow_name opening.Hold n sign.Equals = Some (progress.Reaches (position.Holding n))
+follow_name opening.Release n sign.Semicolon = Some (progress.Ends (stmt.Release n))
+follow_name _ n _ = None
 
-abbrev pub hold_file : List Stmt → List ℕ → List ℕ → Option ParserState
-hold_file ss n [] = None
-hold_file ss n (c ∷ cs) = Some (at ss (position.Marked n (c ∷ cs)))
+abbrev pub hold_file : List ℕ → List ℕ → Option Progress
+hold_file n [] = None
+hold_file n (c ∷ cs) = Some (progress.Reaches (position.Marked n (c ∷ cs)))
 
-abbrev pub step_at : List Stmt → Position → Token → Option ParserState
-step_at ss position.Between (token.Word k) = begin_statement ss k
-step_at ss (position.Opened o) (token.Named n) = Some (at ss (position.Named o n))
-step_at ss (position.Named o n) (token.Sign s) = follow_name ss o n s
-step_at ss (position.Sealing n) (token.Word keyword.Seal) = Some (begin_pipe ss (owner.Seal n))
-step_at ss (position.Holding n) (token.Word keyword.Mark) = Some (at ss (position.Marking n))
-step_at ss (position.Marking n) (token.Text f) = hold_file ss n f
-step_at ss (position.Marked n f) (token.Sign sign.Semicolon) = Some (end_statement ss (stmt.Hold n f))
-step_at ss (position.Inside i) t = step_within ss i.owner i.levels i.chain i.expected t
-step_at ss _ _ = None
+-- what a token makes of the place in a statement
+abbrev pub step_at : Position → Token → Option Progress
+step_at position.Between (token.Word k) = begin_statement k
+step_at (position.Opened o) (token.Named n) = Some (progress.Reaches (position.Named o n))
+step_at (position.Named o n) (token.Sign s) = follow_name o n s
+step_at (position.Sealing n) (token.Word keyword.Seal) = Some (begin_pipe (owner.Seal n))
+step_at (position.Holding n) (token.Word keyword.Mark) = Some (progress.Reaches (position.Marking n))
+step_at (position.Marking n) (token.Text f) = hold_file n f
+step_at (position.Marked n f) (token.Sign sign.Semicolon) = Some (progress.Ends (stmt.Hold n f))
+step_at (position.Inside i n) t = step_within i n t
+step_at _ _ = None
+
+-- behind whole statements
+abbrev pub done : List Stmt → ParserState
+done ss = record { statements = ss; position = position.Between }
+
+-- with the statements before
+abbrev pub advance : List Stmt → Option Progress → Option ParserState
+advance ss None = None
+advance ss (Some (progress.Reaches p)) = Some (record { statements = ss; position = p })
+advance ss (Some (progress.Ends s)) = Some (done (ss ++ s ∷ []))
 
 abbrev pub step : ParserState → Token → Option ParserState
-step s t = step_at s.statements s.position t
+step s t = advance s.statements (step_at s.position t)
 
 abbrev pub start : ParserState
-start = at [] position.Between
+start = done []
 
 abbrev pub next : Option ParserState → Token → Option ParserState
 next None t = None

@@ -2,49 +2,27 @@
 ghost use Rattle.std.specs.Prelude.{◌≡◌, IfOk};
 ghost use Rattle.cd_parser.specs.Machine as spec;
 
-use crate::heads::{let_go, with_last};
+use crate::allocation::{box_both, box_pipe, let_go, with_last};
 use crate::state::{Block, Exit, Frame};
 use crate::word_trees::number_of;
-use cd_elem::{Boxed, NoMemory, Pipe, PipeList, Section, Sign, Zip};
+use cd_elem::{NoMemory, Pipe, PipeList, Section, Sign, Zip};
 use std::alloc::Global;
 
-fn box_pipe(alloc: Global, pipe: Pipe) -> Result<Boxed<Pipe>, NoMemory>
-    ensures { IfOk result (λ it. it ≡ pipe) }
-{
-    match Boxed::new(alloc, pipe) {
-        Ok(it) => Ok(it),
-        Err(pipe) => Err(let_go(pipe)),
-    }
-}
-
-pub fn box_both(
+pub fn leave_bracket(
     alloc: Global,
-    first: Pipe,
-    second: Pipe,
-) -> Result<(Boxed<Pipe>, Boxed<Pipe>), NoMemory>
-    ensures { IfOk result (λ both. (both.0 ≡ first) × (both.1 ≡ second)) }
+    frame: Frame,
+    pipe: Pipe,
+    sign: Sign,
+) -> Result<Option<Exit>, NoMemory>
+    ensures { IfOk result (λ exit. exit ≡ spec.leave_bracket frame pipe sign) }
 {
-    match box_pipe(alloc, first) {
-        Ok(first) => match box_pipe(alloc, second) {
-            Ok(second) => Ok((first, second)),
-            Err(NoMemory) => Err(let_go(first)),
-        },
-        Err(NoMemory) => Err(let_go(second)),
-    }
-}
-
-fn close_block(alloc: Global, block: Block, pipe: Pipe) -> Result<Pipe, NoMemory>
-    ensures { IfOk result (λ form. form ≡ spec.close_block block pipe) }
-{
-    let body = match box_pipe(alloc, pipe) {
-        Ok(body) => body,
-        Err(NoMemory) => return Err(let_go(block)),
-    };
-    match block {
-        Block::Counts(Section::Exactly, count) => Ok(Pipe::Exactly(number_of(count), body)),
-        Block::Counts(Section::ExactlyE, count) => Ok(Pipe::ExactlyE(number_of(count), body)),
-        Block::LineE => Ok(Pipe::LineE(body)),
-        Block::Mark(name) => Ok(Pipe::Mark(name, body)),
+    match frame {
+        Frame::Parens => Ok(leave_parens(pipe, sign)),
+        Frame::Braces(pipes) => leave_braces(pipes, pipe, sign),
+        Frame::Block(block) => leave_block(alloc, block, pipe, sign),
+        Frame::Tee => leave_tee(alloc, pipe, sign),
+        Frame::ZipFirst(zip) => Ok(leave_first(zip, pipe, sign)),
+        Frame::ZipSecond(zip, first) => leave_zip(alloc, zip, first, pipe, sign),
     }
 }
 
@@ -99,6 +77,21 @@ fn leave_block(
     }
 }
 
+fn close_block(alloc: Global, block: Block, pipe: Pipe) -> Result<Pipe, NoMemory>
+    ensures { IfOk result (λ form. form ≡ spec.close_block block pipe) }
+{
+    let body = match box_pipe(alloc, pipe) {
+        Ok(body) => body,
+        Err(NoMemory) => return Err(let_go(block)),
+    };
+    match block {
+        Block::Counts(Section::Exactly, count) => Ok(Pipe::Exactly(number_of(count), body)),
+        Block::Counts(Section::ExactlyE, count) => Ok(Pipe::ExactlyE(number_of(count), body)),
+        Block::LineE => Ok(Pipe::LineE(body)),
+        Block::Mark(name) => Ok(Pipe::Mark(name, body)),
+    }
+}
+
 fn leave_tee(alloc: Global, pipe: Pipe, sign: Sign) -> Result<Option<Exit>, NoMemory>
     ensures { IfOk result (λ exit. exit ≡ spec.leave_bracket Frame.Tee pipe sign) }
 {
@@ -149,23 +142,5 @@ fn leave_zip(
             drop((first, second));
             Ok(None)
         }
-    }
-}
-
-pub fn leave_bracket(
-    alloc: Global,
-    frame: Frame,
-    pipe: Pipe,
-    sign: Sign,
-) -> Result<Option<Exit>, NoMemory>
-    ensures { IfOk result (λ exit. exit ≡ spec.leave_bracket frame pipe sign) }
-{
-    match frame {
-        Frame::Parens => Ok(leave_parens(pipe, sign)),
-        Frame::Braces(pipes) => leave_braces(pipes, pipe, sign),
-        Frame::Block(block) => leave_block(alloc, block, pipe, sign),
-        Frame::Tee => leave_tee(alloc, pipe, sign),
-        Frame::ZipFirst(zip) => Ok(leave_first(zip, pipe, sign)),
-        Frame::ZipSecond(zip, first) => leave_zip(alloc, zip, first, pipe, sign),
     }
 }

@@ -2,25 +2,21 @@
 ghost use Rattle.std.specs.Prelude.{◌≡◌, IfOk};
 ghost use Rattle.cd_parser.specs.Machine as spec;
 
-use crate::heads::with_last;
+use crate::allocation::with_last;
 use crate::state::Chain;
 use cd_elem::{Items, Join, NoMemory, Pipe, Sign};
 use std::alloc::Global;
 
-fn is_same_join(a: Join, b: Join) -> bool
-    ensures { result ≡ spec.is_same_join a b }
+pub fn operator_of(sign: Sign) -> Option<Join>
+    ensures { result ≡ spec.operator_of sign }
 {
-    match (a, b) {
-        (Join::Plain, Join::Plain) => true,
-        (Join::Keep, Join::Keep) => true,
-        (Join::Return, Join::Return) => true,
-        (Join::Both, Join::Both) => true,
-        (Join::Up, Join::Up) => true,
-        (Join::Asked, Join::Asked) => true,
-        _ => false,
+    match sign {
+        Sign::Operator(join) => Some(join),
+        _ => None,
     }
 }
 
+/// The chain with one more part, if this is its operator.
 pub fn join_part(
     alloc: Global,
     chain: Chain,
@@ -35,7 +31,7 @@ pub fn join_part(
             Ok(Some(Chain::Joined(join, parts)))
         }
         Chain::Joined(first, parts) => {
-            if is_same_join(first, join) {
+            if first == join {
                 let parts = with_last(parts, part)?;
                 Ok(Some(Chain::Joined(first, parts)))
             } else {
@@ -46,6 +42,7 @@ pub fn join_part(
     }
 }
 
+/// The pipe that this part ends.
 pub fn close_chain(chain: Chain, part: Pipe) -> Result<Pipe, NoMemory>
     ensures { IfOk result (λ pipe. pipe ≡ spec.close_chain chain part) }
 {
@@ -55,14 +52,5 @@ pub fn close_chain(chain: Chain, part: Pipe) -> Result<Pipe, NoMemory>
             let parts = with_last(parts, part)?;
             Ok(Pipe::Chain(join, parts))
         }
-    }
-}
-
-pub fn operator_of(sign: Sign) -> Option<Join>
-    ensures { result ≡ spec.operator_of sign }
-{
-    match sign {
-        Sign::Operator(join) => Some(join),
-        _ => None,
     }
 }

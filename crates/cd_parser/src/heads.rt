@@ -1,7 +1,8 @@
 // The fronts of words and of forms.
-ghost use Rattle.std.specs.Prelude.{◌≡◌, ◌∷◌, ◌++◌, [], IfOk, Option, Some};
+ghost use Rattle.std.specs.Prelude.{◌≡◌, ◌∷◌, ◌++◌, [], IfOk, Some};
 ghost use Rattle.cd_parser.specs.Machine as spec;
 
+use crate::allocation::{let_go, with_last};
 use crate::state::{Block, Extension, Frame, Head};
 use crate::word_trees::{
     byte_of, classed_word, counted_word, file_word, list_word, literal_word, map_by_number,
@@ -14,20 +15,14 @@ use cd_elem::{
 };
 use std::alloc::Global;
 
-/// Lets go of a value on the way to the answer for want of memory.
-pub fn let_go<T: Drop>(value: T) -> NoMemory {
-    drop(value);
-    NoMemory
-}
-
-/// The list with one more member.
-pub fn with_last<T: Drop>(items: Items<T>, last: T) -> Result<Items<T>, NoMemory>
-    ensures { IfOk result (λ longer. longer ≡ items ++ last ∷ []) }
+/// What a token makes of the place where a part is to begin.
+pub fn begin_part(alloc: Global, token: &Token) -> Option<Extension>
+    ensures { result ≡ spec.begin_part token.now }
 {
-    let mut items = items;
-    match items.push(last) {
-        Ok(()) => Ok(items),
-        Err(last) => Err(let_go((items, last))),
+    match token {
+        Token::Word(word) => begin_by_word(*word),
+        Token::Sign(sign) => begin_by_sign(alloc, *sign),
+        _ => None,
     }
 }
 
@@ -66,27 +61,121 @@ fn begin_by_sign(alloc: Global, sign: Sign) -> Option<Extension>
     }
 }
 
-/// What a token makes of the place where a part is to begin.
-pub fn begin_part(alloc: Global, token: &Token) -> Option<Extension>
-    ensures { result ≡ spec.begin_part token.now }
+/// What a token makes of the front of a word or of a form.
+pub fn extend(alloc: Global, head: Head, token: &Token) -> Result<Option<Extension>, NoMemory>
+    ensures { IfOk result (λ extension. extension ≡ spec.extend head token.now) }
 {
     match token {
-        Token::Word(word) => begin_by_word(*word),
-        Token::Sign(sign) => begin_by_sign(alloc, *sign),
+        Token::Word(word) => Ok(extend_by_word(head, *word)),
+        Token::Sign(sign) => Ok(extend_by_sign(alloc, head, *sign)),
+        Token::Number(number) => Ok(extend_by_number(head, *number)),
+        Token::Text(text) => extend_by_text(alloc, head, text.as_str()),
+        Token::Named(_) => {
+            drop(head);
+            Ok(None)
+        }
+    }
+}
+
+fn extend_by_word(head: Head, next: Keyword) -> Option<Extension>
+    ensures { result ≡ spec.extend_by_word head next }
+{
+    match head {
+        Head::Classed(word) => begin_class_or_not(word, next),
+        Head::ClassedNot(word) => begin_class(word, true, next),
+        Head::Tested(word) => begin_test_or_not(word, next),
+        Head::TestedNot(word) => begin_test(word, true, next),
+        Head::MapE => begin_element_map(next),
+        Head::Map => begin_piece_map(next),
+        head => {
+            drop(head);
+            None
+        }
+    }
+}
+
+fn begin_class_or_not(word: ClassedWord, next: Keyword) -> Option<Extension>
+    ensures { result ≡ spec.begin_class_or_not word next }
+{
+    match next {
+        Keyword::Not => Some(Extension::Goes(Head::ClassedNot(word))),
+        _ => begin_class(word, false, next),
+    }
+}
+
+fn begin_class(word: ClassedWord, negated: bool, next: Keyword) -> Option<Extension>
+    ensures { result ≡ spec.begin_class word negated next }
+{
+    match next {
+        Keyword::Class(class) => Some(end_with_class(word, negated, plain_class(class))),
+        Keyword::Is => Some(Extension::Goes(Head::Is(word, negated))),
+        Keyword::Below => Some(Extension::Goes(Head::Below(word, negated))),
         _ => None,
     }
 }
 
-fn end_with_class(word: ClassedWord, negated: bool, what: ClassName) -> Extension
-    ensures { result ≡ spec.end_with_class word negated what }
+fn begin_test_or_not(word: TestedWord, next: Keyword) -> Option<Extension>
+    ensures { result ≡ spec.begin_test_or_not word next }
 {
-    Extension::Ends(classed_word(word, Class { negated, what }))
+    match next {
+        Keyword::Not => Some(Extension::Goes(Head::TestedNot(word))),
+        _ => begin_test(word, false, next),
+    }
 }
 
-fn end_with_test(word: TestedWord, negated: bool, what: TestName) -> Extension
-    ensures { result ≡ spec.end_with_test word negated what }
+fn begin_test(word: TestedWord, negated: bool, next: Keyword) -> Option<Extension>
+    ensures { result ≡ spec.begin_test word negated next }
 {
-    Extension::Ends(tested_word(word, PieceTest { negated, what }))
+    match next {
+        Keyword::Empty => Some(end_with_test(word, negated, TestName::Empty)),
+        Keyword::EndTest(test) => Some(Extension::Goes(Head::AtEnd(word, negated, test))),
+        Keyword::Shorter => Some(Extension::Goes(Head::Shorter(word, negated))),
+        _ => None,
+    }
+}
+
+fn begin_element_map(next: Keyword) -> Option<Extension>
+    ensures { result ≡ spec.begin_element_map next }
+{
+    match next {
+        Keyword::NumberMap(map) => Some(Extension::Goes(Head::NumberMap(map))),
+        Keyword::Rot13 => Some(Extension::Ends(Word::Elem(ElemWord::MapE(ByteMap::Rot13)))),
+        _ => None,
+    }
+}
+
+fn begin_piece_map(next: Keyword) -> Option<Extension>
+    ensures { result ≡ spec.begin_piece_map next }
+{
+    match next {
+        Keyword::EndMap(map) => Some(Extension::Goes(Head::EndMap(map))),
+        Keyword::Reverse => Some(Extension::Ends(Word::Piece(PieceWord::Map(PieceMap::Reverse)))),
+        _ => None,
+    }
+}
+
+fn extend_by_sign(alloc: Global, head: Head, sign: Sign) -> Option<Extension>
+    ensures { result ≡ spec.extend_by_sign head sign }
+{
+    match (head, sign) {
+        (Head::List(word), Sign::OpenSquare) => Some(Extension::Goes(Head::ListOpen(word))),
+        (Head::ListOpen(word), Sign::CloseSquare) => {
+            Some(Extension::Ends(list_word(word, Items::new(alloc))))
+        }
+        (Head::ListEnded(word, texts), Sign::Comma) => {
+            Some(Extension::Goes(Head::ListGoes(word, texts)))
+        }
+        (Head::ListEnded(word, texts), Sign::CloseSquare) => {
+            Some(Extension::Ends(list_word(word, texts)))
+        }
+        (Head::Block(block), Sign::OpenBrace) => Some(Extension::Opens(Frame::Block(block))),
+        (Head::Tee, Sign::OpenParen) => Some(Extension::Opens(Frame::Tee)),
+        (Head::Zip(zip), Sign::OpenParen) => Some(Extension::Opens(Frame::ZipFirst(zip))),
+        (head, _) => {
+            drop(head);
+            None
+        }
+    }
 }
 
 fn extend_by_number(head: Head, number: Option<u64>) -> Option<Extension>
@@ -122,57 +211,6 @@ fn extend_by_number(head: Head, number: Option<u64>) -> Option<Extension>
             None
         }
     }
-}
-
-fn end_with_scalar(word: ClassedWord, negated: bool, scalar: Option<char>) -> Option<Extension>
-    ensures { result ≡ spec.end_with_scalar word negated scalar }
-{
-    match scalar {
-        None => None,
-        Some(scalar) => Some(end_with_class(word, negated, ClassName::Is(scalar))),
-    }
-}
-
-fn split_at(scalar: Option<char>) -> Option<Extension>
-    ensures { result ≡ spec.split_at scalar }
-{
-    match scalar {
-        None => None,
-        Some(scalar) => Some(Extension::Goes(Head::SplitAt(scalar))),
-    }
-}
-
-fn end_with_file(word: FileWord, name: Literal) -> Option<Extension>
-    ensures { result ≡ spec.end_with_file word name }
-{
-    if name.as_str().is_empty() {
-        drop(name);
-        None
-    } else {
-        Some(Extension::Ends(file_word(word, name)))
-    }
-}
-
-fn begin_mark(name: Literal) -> Option<Extension>
-    ensures { result ≡ spec.begin_mark name }
-{
-    if name.as_str().is_empty() {
-        drop(name);
-        None
-    } else {
-        Some(Extension::Goes(Head::Block(Block::Mark(name))))
-    }
-}
-
-fn extend_list(
-    word: ListWord,
-    texts: LiteralList,
-    text: Literal,
-) -> Result<Option<Extension>, NoMemory>
-    ensures { IfOk result (λ extension. extension ≡ Some (Extension.Goes (Head.ListEnded word (texts ++ text ∷ [])))) }
-{
-    let texts = with_last(texts, text)?;
-    Ok(Some(Extension::Goes(Head::ListEnded(word, texts))))
 }
 
 fn extend_by_text(alloc: Global, head: Head, text: &str) -> Result<Option<Extension>, NoMemory>
@@ -214,119 +252,59 @@ fn extend_by_text(alloc: Global, head: Head, text: &str) -> Result<Option<Extens
     }
 }
 
-fn begin_class(word: ClassedWord, negated: bool, next: Keyword) -> Option<Extension>
-    ensures { result ≡ spec.begin_class word negated next }
+fn end_with_scalar(word: ClassedWord, negated: bool, scalar: Option<char>) -> Option<Extension>
+    ensures { result ≡ spec.end_with_scalar word negated scalar }
 {
-    match next {
-        Keyword::Class(class) => Some(end_with_class(word, negated, plain_class(class))),
-        Keyword::Is => Some(Extension::Goes(Head::Is(word, negated))),
-        Keyword::Below => Some(Extension::Goes(Head::Below(word, negated))),
-        _ => None,
+    scalar.map(|scalar| end_with_class(word, negated, ClassName::Is(scalar)))
+}
+
+fn end_with_file(word: FileWord, name: Literal) -> Option<Extension>
+    ensures { result ≡ spec.end_with_file word name }
+{
+    if name.as_str().is_empty() {
+        drop(name);
+        None
+    } else {
+        Some(Extension::Ends(file_word(word, name)))
     }
 }
 
-fn begin_class_or_not(word: ClassedWord, next: Keyword) -> Option<Extension>
-    ensures { result ≡ spec.begin_class_or_not word next }
+fn split_at(scalar: Option<char>) -> Option<Extension>
+    ensures { result ≡ spec.split_at scalar }
 {
-    match next {
-        Keyword::Not => Some(Extension::Goes(Head::ClassedNot(word))),
-        _ => begin_class(word, false, next),
+    scalar.map(|scalar| Extension::Goes(Head::SplitAt(scalar)))
+}
+
+fn extend_list(
+    word: ListWord,
+    texts: LiteralList,
+    text: Literal,
+) -> Result<Option<Extension>, NoMemory>
+    ensures { IfOk result (λ extension. extension ≡ Some (Extension.Goes (Head.ListEnded word (texts ++ text ∷ [])))) }
+{
+    let texts = with_last(texts, text)?;
+    Ok(Some(Extension::Goes(Head::ListEnded(word, texts))))
+}
+
+fn begin_mark(name: Literal) -> Option<Extension>
+    ensures { result ≡ spec.begin_mark name }
+{
+    if name.as_str().is_empty() {
+        drop(name);
+        None
+    } else {
+        Some(Extension::Goes(Head::Block(Block::Mark(name))))
     }
 }
 
-fn begin_test(word: TestedWord, negated: bool, next: Keyword) -> Option<Extension>
-    ensures { result ≡ spec.begin_test word negated next }
+fn end_with_class(word: ClassedWord, negated: bool, what: ClassName) -> Extension
+    ensures { result ≡ spec.end_with_class word negated what }
 {
-    match next {
-        Keyword::Empty => Some(end_with_test(word, negated, TestName::Empty)),
-        Keyword::EndTest(test) => Some(Extension::Goes(Head::AtEnd(word, negated, test))),
-        Keyword::Shorter => Some(Extension::Goes(Head::Shorter(word, negated))),
-        _ => None,
-    }
+    Extension::Ends(classed_word(word, Class { negated, what }))
 }
 
-fn begin_test_or_not(word: TestedWord, next: Keyword) -> Option<Extension>
-    ensures { result ≡ spec.begin_test_or_not word next }
+fn end_with_test(word: TestedWord, negated: bool, what: TestName) -> Extension
+    ensures { result ≡ spec.end_with_test word negated what }
 {
-    match next {
-        Keyword::Not => Some(Extension::Goes(Head::TestedNot(word))),
-        _ => begin_test(word, false, next),
-    }
-}
-
-fn begin_element_map(next: Keyword) -> Option<Extension>
-    ensures { result ≡ spec.begin_element_map next }
-{
-    match next {
-        Keyword::NumberMap(map) => Some(Extension::Goes(Head::NumberMap(map))),
-        Keyword::Rot13 => Some(Extension::Ends(Word::Elem(ElemWord::MapE(ByteMap::Rot13)))),
-        _ => None,
-    }
-}
-
-fn begin_piece_map(next: Keyword) -> Option<Extension>
-    ensures { result ≡ spec.begin_piece_map next }
-{
-    match next {
-        Keyword::EndMap(map) => Some(Extension::Goes(Head::EndMap(map))),
-        Keyword::Reverse => Some(Extension::Ends(Word::Piece(PieceWord::Map(PieceMap::Reverse)))),
-        _ => None,
-    }
-}
-
-fn extend_by_word(head: Head, next: Keyword) -> Option<Extension>
-    ensures { result ≡ spec.extend_by_word head next }
-{
-    match head {
-        Head::Classed(word) => begin_class_or_not(word, next),
-        Head::ClassedNot(word) => begin_class(word, true, next),
-        Head::Tested(word) => begin_test_or_not(word, next),
-        Head::TestedNot(word) => begin_test(word, true, next),
-        Head::MapE => begin_element_map(next),
-        Head::Map => begin_piece_map(next),
-        head => {
-            drop(head);
-            None
-        }
-    }
-}
-
-fn extend_by_sign(alloc: Global, head: Head, sign: Sign) -> Option<Extension>
-    ensures { result ≡ spec.extend_by_sign head sign }
-{
-    match (head, sign) {
-        (Head::List(word), Sign::OpenSquare) => Some(Extension::Goes(Head::ListOpen(word))),
-        (Head::ListOpen(word), Sign::CloseSquare) => {
-            Some(Extension::Ends(list_word(word, Items::new(alloc))))
-        }
-        (Head::ListEnded(word, texts), Sign::Comma) => {
-            Some(Extension::Goes(Head::ListGoes(word, texts)))
-        }
-        (Head::ListEnded(word, texts), Sign::CloseSquare) => {
-            Some(Extension::Ends(list_word(word, texts)))
-        }
-        (Head::Block(block), Sign::OpenBrace) => Some(Extension::Opens(Frame::Block(block))),
-        (Head::Tee, Sign::OpenParen) => Some(Extension::Opens(Frame::Tee)),
-        (Head::Zip(zip), Sign::OpenParen) => Some(Extension::Opens(Frame::ZipFirst(zip))),
-        (head, _) => {
-            drop(head);
-            None
-        }
-    }
-}
-
-/// What a token makes of the front of a word or of a form.
-pub fn extend(alloc: Global, head: Head, token: &Token) -> Result<Option<Extension>, NoMemory>
-    ensures { IfOk result (λ extension. extension ≡ spec.extend head token.now) }
-{
-    match token {
-        Token::Word(word) => Ok(extend_by_word(head, *word)),
-        Token::Sign(sign) => Ok(extend_by_sign(alloc, head, *sign)),
-        Token::Number(number) => Ok(extend_by_number(head, *number)),
-        Token::Text(text) => extend_by_text(alloc, head, text.as_str()),
-        Token::Named(_) => {
-            drop(head);
-            Ok(None)
-        }
-    }
+    Extension::Ends(tested_word(word, PieceTest { negated, what }))
 }

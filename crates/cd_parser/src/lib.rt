@@ -4,10 +4,11 @@
 //! constant number of moves.
 #![tactic(auto)]
 
+mod allocation;
 mod brackets;
 mod chains;
 mod heads;
-mod machine;
+mod open_pipe;
 mod stack;
 mod state;
 mod statements;
@@ -15,7 +16,7 @@ mod word_trees;
 
 pub use stack::Stack;
 pub use state::{
-    Block, Chain, Exit, Expected, Extension, Frame, Head, Inside, Level, Owner, ParserState,
-    Position,
+    Block, Chain, Exit, Expected, Extension, Frame, Head, Level, OpenPipe, Owner, ParserState,
+    Position, Progress,
 };
 pub use statements::step;

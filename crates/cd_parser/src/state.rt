@@ -2,8 +2,8 @@
 use crate::stack::Stack;
 use cd_elem::{
     ClassedWord, CountedWord, EndMap, EndTest, FileWord, Join, ListWord, Literal, LiteralList,
-    LiteralWord, Name, NumberMap, Opening, Pipe, PipeList, Section, StmtList, TestedWord, Word,
-    Zip,
+    LiteralWord, Name, NumberMap, Opening, Pipe, PipeList, Section, Stmt, StmtList, TestedWord,
+    Word, Zip,
 };
 
 /// What a statement does with its pipe.
@@ -98,13 +98,12 @@ pub enum Expected {
     ZipEnd(Pipe, Pipe, Literal),
 }
 
-/// Where in a pipe the parser stands.
+/// A pipe that has not ended: whose it is, the brackets that it stands in, and its members so far.
 #[derive(Drop)]
-pub struct Inside {
+pub struct OpenPipe {
     pub owner: Owner,
     pub levels: Stack<Level>,
     pub chain: Chain,
-    pub expected: Expected,
 }
 
 /// Where in a statement the parser stands.
@@ -121,7 +120,14 @@ pub enum Position {
     Marking(Name),
     /// Behind `hold NAME = mark FILE`.
     Marked(Name, Literal),
-    Inside(Inside),
+    Inside(OpenPipe, Expected),
+}
+
+/// What a token makes of the place in a statement.
+#[derive(Drop)]
+pub enum Progress {
+    Reaches(Position),
+    Ends(Stmt),
 }
 
 /// The statements that have ended, and the place in the next one.
