@@ -1,5 +1,5 @@
 -- A token is refused exactly where no script goes on with it.
-use Rattle.std.proofs.Common.{◌≡◌, List, [], ◌∷◌, ◌++◌, Some, None, refl, ap, sym, ◌∙◌}
+use Rattle.std.proofs.Common.{◌≡◌, ◌↔◌, List, [], ◌∷◌, ◌++◌, Option, Some, None, refl, ap, sym, ◌∙◌}
 use Rattle.std.specs.List.{fold}
 use Rattle.std.proofs.lemmas.List.Sums.{fold-append}
 use Rattle.cd_elem.specs.declared.script.Stmt.{Stmt}
@@ -40,3 +40,21 @@ no_front ts e f =
     let c = ap (λ o. fold next o f.more) e in
     let d = stuck f.more in
     apart (sym d ∙ sym c ∙ sym b ∙ a)
+
+-- and nothing else is refused
+no_front-refused : (ts : List Token) (o : Option ParserState) → state_behind ts ≡ o → ¬ g.IsFront ts → state_behind ts ≡ None
+no_front-refused ts None e n = e
+no_front-refused ts (Some s) e n = absurd (n (front ts s e))
+
+pub refused : (ts : List Token) → (state_behind ts ≡ None) ↔ (¬ g.IsFront ts)
+refused ts = (no_front ts, no_front-refused ts _ refl)
+
+pub scripts : (ts : List Token) (tree : List Stmt) → (state_behind ts ≡ Some (done tree)) ↔ g.IsScript ts tree
+scripts ts tree = (is_script ts tree, only ts tree)
+
+-- a script stands for one tree
+pub only_tree : (ts : List Token) (tree other : List Stmt) → g.IsScript ts tree → g.IsScript ts other → tree ≡ other
+only_tree ts tree other i j = ap statements_of (sym (only ts tree i) ∙ only ts other j) where
+  statements_of : Option ParserState → List Stmt
+  statements_of None = []
+  statements_of (Some s) = s.statements

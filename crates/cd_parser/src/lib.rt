@@ -8,12 +8,14 @@ mod allocation;
 mod brackets;
 mod chains;
 mod heads;
+mod laws;
 mod open_pipe;
 mod stack;
 mod state;
 mod statements;
 mod word_trees;
 
+pub use laws::machine_law;
 pub use stack::Stack;
 pub use state::{
     Block, Chain, Exit, Expected, Extension, Frame, Head, Level, OpenPipe, Owner, ParserState,

@@ -6,6 +6,45 @@ use cd_elem::{
     Word, Zip,
 };
 
+/// The statements that have ended, and the place in the next one.
+#[derive(Drop)]
+pub struct ParserState {
+    pub statements: StmtList,
+    pub position: Position,
+}
+
+/// Where in a statement the parser stands.
+#[derive(Drop)]
+pub enum Position {
+    Between,
+    Opened(Opening),
+    Named(Opening, Name),
+    /// Behind `let NAME =`.
+    Sealing(Name),
+    /// Behind `hold NAME =`.
+    Holding(Name),
+    /// Behind `hold NAME = mark`.
+    Marking(Name),
+    /// Behind `hold NAME = mark FILE`.
+    Marked(Name, Literal),
+    Inside(OpenPipe, Expected),
+}
+
+/// What a token makes of the place in a statement.
+#[derive(Drop)]
+pub enum Progress {
+    Reaches(Position),
+    Ends(Stmt),
+}
+
+/// A pipe that has not ended: whose it is, the brackets that it stands in, and its members so far.
+#[derive(Drop)]
+pub struct OpenPipe {
+    pub owner: Owner,
+    pub levels: Stack<Level>,
+    pub chain: Chain,
+}
+
 /// What a statement does with its pipe.
 #[derive(Drop)]
 pub enum Owner {
@@ -15,19 +54,11 @@ pub enum Owner {
     CloseSeal(Name),
 }
 
-/// The members of a pipe so far, each with the operator behind it.
+/// An open bracket, and the pipe that it stands in.
 #[derive(Drop)]
-pub enum Chain {
-    Alone,
-    Joined(Join, PipeList),
-}
-
-/// What stands before a pipe in braces.
-#[derive(Drop)]
-pub enum Block {
-    Counts(Section, Option<u64>),
-    LineE,
-    Mark(Literal),
+pub struct Level {
+    pub frame: Frame,
+    pub outer: Chain,
 }
 
 /// An open bracket, with the pipes that ended in it.
@@ -41,11 +72,34 @@ pub enum Frame {
     ZipSecond(Zip, Pipe),
 }
 
-/// An open bracket, and the pipe that it stands in.
+/// What stands before a pipe in braces.
 #[derive(Drop)]
-pub struct Level {
-    pub frame: Frame,
-    pub outer: Chain,
+pub enum Block {
+    Counts(Section, Option<u64>),
+    LineE,
+    Mark(Literal),
+}
+
+/// The members of a pipe so far, each with the operator behind it.
+#[derive(Drop)]
+pub enum Chain {
+    Alone,
+    Joined(Join, PipeList),
+}
+
+/// What the next token has to go on with.
+#[derive(Drop)]
+pub enum Expected {
+    /// A part.
+    Part,
+    /// The rest of a word or of a form's front.
+    Further(Head),
+    /// What may stand behind a part.
+    Ended(Pipe),
+    /// The literal behind the two pipes of `zipSource`.
+    ZipText(Pipe, Pipe),
+    /// The bracket behind that.
+    ZipEnd(Pipe, Pipe, Literal),
 }
 
 /// The front of a word or of a form. A `bool` says whether a `not` stands in it.
@@ -81,60 +135,6 @@ pub enum Head {
     Block(Block),
     Tee,
     Zip(Zip),
-}
-
-/// What the next token has to go on with.
-#[derive(Drop)]
-pub enum Expected {
-    /// A part.
-    Part,
-    /// The rest of a word or of a form's front.
-    Further(Head),
-    /// What may stand behind a part.
-    Ended(Pipe),
-    /// The literal behind the two pipes of `zipSource`.
-    ZipText(Pipe, Pipe),
-    /// The bracket behind that.
-    ZipEnd(Pipe, Pipe, Literal),
-}
-
-/// A pipe that has not ended: whose it is, the brackets that it stands in, and its members so far.
-#[derive(Drop)]
-pub struct OpenPipe {
-    pub owner: Owner,
-    pub levels: Stack<Level>,
-    pub chain: Chain,
-}
-
-/// Where in a statement the parser stands.
-#[derive(Drop)]
-pub enum Position {
-    Between,
-    Opened(Opening),
-    Named(Opening, Name),
-    /// Behind `let NAME =`.
-    Sealing(Name),
-    /// Behind `hold NAME =`.
-    Holding(Name),
-    /// Behind `hold NAME = mark`.
-    Marking(Name),
-    /// Behind `hold NAME = mark FILE`.
-    Marked(Name, Literal),
-    Inside(OpenPipe, Expected),
-}
-
-/// What a token makes of the place in a statement.
-#[derive(Drop)]
-pub enum Progress {
-    Reaches(Position),
-    Ends(Stmt),
-}
-
-/// The statements that have ended, and the place in the next one.
-#[derive(Drop)]
-pub struct ParserState {
-    pub statements: StmtList,
-    pub position: Position,
 }
 
 /// What a token makes of the front of a word or of a form.

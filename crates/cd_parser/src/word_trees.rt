@@ -164,8 +164,8 @@ pub fn byte_of(number: Option<u64>) -> u8
     ensures { result ≡ spec.byte_of number }
 {
     match number {
-        None => 0,
-        Some(number) => { if number < 256 { number as u8 } else { 0 } }
+        Some(number) if number < 256 => number as u8,
+        _ => 0,
     }
 }
 
