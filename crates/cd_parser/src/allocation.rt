@@ -1,6 +1,7 @@
 // Owned values that grow, unless memory runs out.
 ghost use Rattle.std.specs.Prelude.{◌≡◌, ◌∷◌, ◌++◌, [], IfOk};
 
+use crate::stack::Stack;
 use cd_elem::{Boxed, Items, NoMemory, Pipe};
 use std::alloc::Global;
 
@@ -11,6 +12,16 @@ pub fn with_last<T: Drop>(mut items: Items<T>, last: T) -> Result<Items<T>, NoMe
     match items.push(last) {
         Ok(()) => Ok(items),
         Err(last) => Err(let_go((items, last))),
+    }
+}
+
+/// The stack with one more member on top.
+pub fn with_top<T: Drop>(mut stack: Stack<T>, top: T) -> Result<Stack<T>, NoMemory>
+    ensures { IfOk result (λ higher. higher ≡ top ∷ stack) }
+{
+    match stack.push(top) {
+        Ok(()) => Ok(stack),
+        Err(top) => Err(let_go((stack, top))),
     }
 }
 

@@ -2,7 +2,7 @@
 ghost use Rattle.std.specs.Prelude.{◌≡◌, ◌∷◌, [], IfOk, Some};
 ghost use Rattle.cd_parser.specs.Machine as spec;
 
-use crate::allocation::{box_both, let_go};
+use crate::allocation::{box_both, let_go, with_top};
 use crate::brackets::leave_bracket;
 use crate::chains::{close_chain, join_part, operator_of};
 use crate::heads::{begin_part, extend};
@@ -79,15 +79,15 @@ impl OpenPipe {
     {
         let OpenPipe {
             owner,
-            mut levels,
+            levels,
             chain,
         } = self;
         let level = Level {
             frame,
             outer: chain,
         };
-        match levels.push(level) {
-            Ok(()) => {
+        match with_top(levels, level) {
+            Ok(levels) => {
                 let pipe = OpenPipe {
                     owner,
                     levels,
@@ -95,7 +95,7 @@ impl OpenPipe {
                 };
                 Ok(Some(pipe.reach(Expected::Part)))
             }
-            Err(level) => Err(let_go((owner, levels, level))),
+            Err(NoMemory) => Err(let_go(owner)),
         }
     }
 
