@@ -1,5 +1,6 @@
 -- The reader behind one more token.
 use Rattle.std.proofs.Common.{◌≡◌, ℕ, Bool, true, false, ◌+◌, ◌<◌, List, [], ◌∷◌, ◌++◌, Option, Some, None, Ok, Err, take, drop, length, get_or, refl, ap, sym, ◌∙◌, arith, subst, below_more, inl, inr, add-one, ◌≤◌}
+use Rattle.std.specs.Result.{IsErrAnd}
 use Rattle.std.proofs.Math.Seq.{take-suc, drop-cons, take-length}
 use Rattle.std.proofs.lemmas.List.{take-map, map-append, get_or-map, length-map, length-take-le, take-append-drop, drop_all}
 use Rattle.std.proofs.lemmas.Bool.{cases_lt}
@@ -136,8 +137,8 @@ ends_at ls ss (position.Marking n) true end e h b = other_place ls ss _ true end
 ends_at ls ss (position.Marking n) false end e h b = other_place ls ss _ false end e (λ w f. cc) b
 ends_at ls ss (position.Marked n f) true end e h b = other_place ls ss _ true end e (λ w f. cc) b
 ends_at ls ss (position.Marked n f) false end e h b = other_place ls ss _ false end e (λ w f. cc) b
-ends_at ls ss (position.Inside i) true end e h b = other_place ls ss _ true end e (λ w f. cc) b
-ends_at ls ss (position.Inside i) false end e h b = other_place ls ss _ false end e (λ w f. cc) b
+ends_at ls ss (position.Inside i n) true end e h b = other_place ls ss _ true end e (λ w f. cc) b
+ends_at ls ss (position.Inside i n) false end e h b = other_place ls ss _ false end e (λ w f. cc) b
 
 pub ends : (ls : List Lexeme) (i : ℕ) (r : Reader) (whole : Bool) (end : ℕ) (x : Answer)
     → length ls ≤ i → i ≤ length ls → IsBehind ls i r → x ≡ ending r.state whole end → AnswersTokens ls whole end x
@@ -162,3 +163,8 @@ gives ls whole end (Err (Syntax at)) a tree k s w = elim a [
 ]
 gives ls whole end (Err (Limit which at)) a tree k s w = apart (sym (w a.index) ∙ a.limit)
 gives ls whole end (Err NoMemory) a tree k s w = tt
+
+-- a refusal that is handed on
+pub handed_on : (P : Answer → Type 0) (x : Answer) (why : ScriptRefusal) → IsErrAnd x (λ y. y ≡ why) → P (Err why) → P x
+handed_on P (Err y) why e p = subst (λ z. P (Err z)) (sym e) p
+handed_on P (Ok tree) why e p = absurd e

@@ -42,101 +42,23 @@ pub struct Bounds {
     pub most: u64,
 }
 
-pub fn every_number() -> Bounds
-    ensures { bounds_of result ≡ spec.every_number }
+/// The first limit that this token passes, behind so many tokens and open brackets.
+pub fn limit_of(count: usize, opened: usize, bounds: Bounds, token: &Token) -> Option<LimitKind>
+    ensures { result ≡ spec.limit_of count opened (bounds_of bounds) token.now }
 {
-    Bounds {
-        least: 0,
-        most: u64::MAX,
+    if count >= TOKEN_LIMIT {
+        return Some(LimitKind::Tokens);
     }
-}
-
-fn up_to(most: u64) -> Bounds
-    ensures { bounds_of result ≡ spec.bounds 0 most }
-{
-    Bounds { least: 0, most }
-}
-
-fn length_bounds() -> Bounds
-    ensures { bounds_of result ≡ spec.length_bounds }
-{
-    Bounds {
-        least: 1,
-        most: LENGTH_LIMIT,
+    if opened >= DEPTH_LIMIT && opens_bracket(token) {
+        return Some(LimitKind::Depth);
     }
-}
-
-fn counted_bounds(word: CountedWord) -> Bounds
-    ensures { bounds_of result ≡ spec.counted_bounds word }
-{
-    match word {
-        CountedWord::TakeE => every_number(),
-        CountedWord::RepeatE => up_to(REPEAT_LIMIT),
-        CountedWord::DropE => every_number(),
-        CountedWord::CollectE => up_to(COLLECT_LIMIT),
-        CountedWord::Take => every_number(),
-        CountedWord::Repeat => up_to(REPEAT_LIMIT),
-        CountedWord::Drop => every_number(),
-        CountedWord::Collect => up_to(COLLECT_LIMIT),
-        CountedWord::Lines => length_bounds(),
-        CountedWord::Exact => length_bounds(),
-        CountedWord::ChunksOf => length_bounds(),
+    if is_too_long(token) {
+        return Some(LimitKind::Literal);
     }
-}
-
-fn keyword_bounds(word: Keyword) -> Bounds
-    ensures { bounds_of result ≡ spec.keyword_bounds word }
-{
-    match word {
-        Keyword::Counted(word) => counted_bounds(word),
-        Keyword::NumberMap(_) => up_to(BYTE_LIMIT),
-        Keyword::Replicate => up_to(COPY_LIMIT),
-        _ => every_number(),
+    if is_outside(bounds, token) {
+        return Some(LimitKind::Number);
     }
-}
-
-/// The numbers that may stand behind this token.
-pub fn bounds_behind(token: &Token) -> Bounds
-    ensures { bounds_of result ≡ spec.bounds_behind token.now }
-{
-    match token {
-        Token::Word(word) => keyword_bounds(*word),
-        Token::Text(_) => length_bounds(),
-        _ => every_number(),
-    }
-}
-
-fn brackets_with_sign(opened: usize, sign: Sign) -> usize
-    requires { opened + 1 ≤ usize.MAX }
-    ensures value { result ≡ spec.brackets_with_sign opened sign }
-    ensures within { result ≤ opened + 1 }
-{
-    match sign {
-        Sign::OpenBrace | Sign::OpenParen | Sign::OpenSquare => opened + 1,
-        Sign::CloseBrace | Sign::CloseParen | Sign::CloseSquare => opened.saturating_sub(1),
-        _ => opened,
-    }
-}
-
-/// How many brackets are open behind this token.
-pub fn brackets_with(opened: usize, token: &Token) -> usize
-    requires { opened + 1 ≤ usize.MAX }
-    ensures value { result ≡ spec.brackets_with opened token.now }
-    ensures within { result ≤ opened + 1 }
-{
-    match token {
-        Token::Sign(sign) => brackets_with_sign(opened, *sign),
-        _ => opened,
-    }
-}
-
-fn sign_opens_bracket(sign: Sign) -> bool
-    ensures { result ≡ spec.sign_opens_bracket sign }
-{
-    match sign {
-        Sign::OpenBrace | Sign::OpenParen | Sign::OpenSquare => true,
-        _ => false,
-    }
+    None
 }
 
 fn opens_bracket(token: &Token) -> bool
@@ -146,6 +68,12 @@ fn opens_bracket(token: &Token) -> bool
         Token::Sign(sign) => sign_opens_bracket(*sign),
         _ => false,
     }
+}
+
+fn sign_opens_bracket(sign: Sign) -> bool
+    ensures { result ≡ spec.sign_opens_bracket sign }
+{
+    matches!(sign, Sign::OpenBrace | Sign::OpenParen | Sign::OpenSquare)
 }
 
 fn is_too_long(token: &Token) -> bool
@@ -168,21 +96,90 @@ fn is_outside(bounds: Bounds, token: &Token) -> bool
     }
 }
 
-/// The first limit that this token passes, behind so many tokens and open brackets.
-pub fn limit_of(count: usize, opened: usize, bounds: Bounds, token: &Token) -> Option<LimitKind>
-    ensures { result ≡ spec.limit_of count opened (bounds_of bounds) token.now }
+/// How many brackets are open behind this token.
+pub fn brackets_with(opened: usize, token: &Token) -> usize
+    requires { opened + 1 ≤ usize.MAX }
+    ensures value { result ≡ spec.brackets_with opened token.now }
+    ensures within { result ≤ opened + 1 }
 {
-    if count >= TOKEN_LIMIT {
-        return Some(LimitKind::Tokens);
+    match token {
+        Token::Sign(sign) => brackets_with_sign(opened, *sign),
+        _ => opened,
     }
-    if opened >= DEPTH_LIMIT && opens_bracket(token) {
-        return Some(LimitKind::Depth);
+}
+
+fn brackets_with_sign(opened: usize, sign: Sign) -> usize
+    requires { opened + 1 ≤ usize.MAX }
+    ensures value { result ≡ spec.brackets_with_sign opened sign }
+    ensures within { result ≤ opened + 1 }
+{
+    match sign {
+        Sign::OpenBrace | Sign::OpenParen | Sign::OpenSquare => opened + 1,
+        Sign::CloseBrace | Sign::CloseParen | Sign::CloseSquare => opened.saturating_sub(1),
+        _ => opened,
     }
-    if is_too_long(token) {
-        return Some(LimitKind::Literal);
+}
+
+/// The numbers that may stand behind this token.
+pub fn bounds_behind(token: &Token) -> Bounds
+    ensures { bounds_of result ≡ spec.bounds_behind token.now }
+{
+    match token {
+        Token::Word(word) => keyword_bounds(*word),
+        Token::Text(_) => length_bounds(),
+        _ => every_number(),
     }
-    if is_outside(bounds, token) {
-        return Some(LimitKind::Number);
+}
+
+fn keyword_bounds(word: Keyword) -> Bounds
+    ensures { bounds_of result ≡ spec.keyword_bounds word }
+{
+    match word {
+        Keyword::Counted(word) => counted_bounds(word),
+        Keyword::NumberMap(_) => up_to(BYTE_LIMIT),
+        Keyword::Replicate => up_to(COPY_LIMIT),
+        _ => every_number(),
     }
-    None
+}
+
+fn counted_bounds(word: CountedWord) -> Bounds
+    ensures { bounds_of result ≡ spec.counted_bounds word }
+{
+    match word {
+        CountedWord::TakeE => every_number(),
+        CountedWord::RepeatE => up_to(REPEAT_LIMIT),
+        CountedWord::DropE => every_number(),
+        CountedWord::CollectE => up_to(COLLECT_LIMIT),
+        CountedWord::Take => every_number(),
+        CountedWord::Repeat => up_to(REPEAT_LIMIT),
+        CountedWord::Drop => every_number(),
+        CountedWord::Collect => up_to(COLLECT_LIMIT),
+        CountedWord::Lines => length_bounds(),
+        CountedWord::Exact => length_bounds(),
+        CountedWord::ChunksOf => length_bounds(),
+    }
+}
+
+fn length_bounds() -> Bounds
+    ensures { bounds_of result ≡ spec.length_bounds }
+{
+    Bounds {
+        least: 1,
+        most: LENGTH_LIMIT,
+    }
+}
+
+fn up_to(most: u64) -> Bounds
+    ensures { bounds_of result ≡ spec.bounds 0 most }
+{
+    Bounds { least: 0, most }
+}
+
+pub fn every_number() -> Bounds
+    ensures { bounds_of result ≡ spec.every_number }
+{
+    Bounds {
+        least: 0,
+        most: u64::MAX,
+    }
 }

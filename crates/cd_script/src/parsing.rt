@@ -8,7 +8,7 @@ ghost use Rattle.cd_script.specs.Answers.{AnswersOnly, Parses};
 
 use crate::reader::parse_tokens;
 use crate::refusal::ScriptRefusal;
-use cd_elem::{NoMemory, Script};
+use cd_elem::Script;
 use cd_lex::lex;
 use std::alloc::Global;
 
@@ -22,8 +22,8 @@ pub fn parse(alloc: Global, text: &str) -> Result<Script, ScriptRefusal>
     // A tree has the form of a script's, and its canonical text is within the limits too.
     ensures within { IfOk result (λ tree. IsTreeWithin tree) }
 {
-    match lex(alloc, text) {
-        Err(NoMemory) => Err(ScriptRefusal::NoMemory),
-        Ok(lexed) => parse_tokens(alloc, lexed.lexemes.as_slice(), lexed.whole, lexed.stop),
-    }
+    let Ok(lexed) = lex(alloc, text) else {
+        return Err(ScriptRefusal::NoMemory);
+    };
+    parse_tokens(alloc, lexed.lexemes.as_slice(), lexed.whole, lexed.stop)
 }

@@ -10,17 +10,6 @@ use cd_elem::{NoMemory, Script, Stmt};
 use cd_lex::push_spaced;
 use std::alloc::Global;
 
-/// Adds the line of a statement. After an error some of it may stand there.
-fn push_line(alloc: Global, text: &mut String, statement: &Stmt) -> Result<(), NoMemory>
-    ensures statement_line { OnOk result (string_bytes text.new ≡ string_bytes text.old ++ statement_line statement.now) }
-    ensures range { OnOk result (ranges.statement statement.now ≡ true) }
-{
-    let tokens = canonical_statement(alloc, statement)?;
-    push_spaced(text, tokens.as_slice())?;
-    text.push_str("\n")?;
-    Ok(())
-}
-
 /// The canonical text of a tree that is within the limits. It is a script with the same tree, so `parse` reads it back
 /// where it has at most `TEXT_LIMIT` bytes.
 pub fn print(alloc: Global, script: &Script) -> Result<String, NoMemory>
@@ -33,4 +22,15 @@ pub fn print(alloc: Global, script: &Script) -> Result<String, NoMemory>
         push_line(alloc, &mut text, statement)?;
     }
     Ok(text)
+}
+
+/// Adds the line of a statement. After an error some of it may stand there.
+fn push_line(alloc: Global, text: &mut String, statement: &Stmt) -> Result<(), NoMemory>
+    ensures statement_line { OnOk result (string_bytes text.new ≡ string_bytes text.old ++ statement_line statement.now) }
+    ensures range { OnOk result (ranges.statement statement.now ≡ true) }
+{
+    let tokens = canonical_statement(alloc, statement)?;
+    push_spaced(text, tokens.as_slice())?;
+    text.push_str("\n")?;
+    Ok(())
 }
