@@ -9,54 +9,47 @@ use crate::longest_token::longest_token;
 use cd_elem::{Items, Lexeme, NoMemory, Token};
 use std::alloc::Global;
 
-fn is_in_gap(comment: bool, byte: u8) -> bool
-    ensures { result ≡ spec.is_in_gap comment byte }
-{
-    if comment {
-        return true;
-    }
-    byte == b' ' || byte == b'\t' || byte == b'\r' || byte == b'\n' || byte == b'#'
+/// The tokens of a text, up to its end or to the first place where none begins.
+#[derive(Drop)]
+pub struct Lexed {
+    pub lexemes: Items<Lexeme>,
+    pub stop: u32,
+    pub whole: bool,
 }
 
-fn comment_goes_on(comment: bool, byte: u8) -> bool
-    ensures { result ≡ spec.comment_goes_on comment byte }
+/// The tokens of a text. A `lexed.stop` is the text's length where the tokens are those of the whole text, and else
+/// the first place where no token begins.
+pub fn lex(alloc: Global, text: &str) -> Result<Lexed, NoMemory>
+    requires { length text.now ≤ text_limit }
+    ensures { IfOk result (λ it. spec.Tokenizes text.now it.lexemes it.stop it.whole) }
 {
-    if comment {
-        return byte != b'\n';
-    }
-    byte == b'#'
-}
-
-#[tactic(auto, using(crate::proofs::Gaps::gaps))]
-fn gap_length(text: &[u8]) -> usize
-    ensures value { result ≡ spec.gap_length false text.now }
-    ensures within { result ≤ length text.now }
-{
-    let mut comment = false;
-    for (place, byte) in text.iter().enumerate() {
-        if !is_in_gap(comment, *byte) {
-            return place;
+    let text = text.as_bytes();
+    let mut lexemes: Items<Lexeme> = Items::new(alloc);
+    let mut at = 0;
+    let mut zero = false;
+    // The proof calls the loop by its label.
+    'tokens: loop {
+        match next_lexeme(alloc, text, at, zero) {
+            Err(NoMemory) => {
+                drop(lexemes);
+                return Err(NoMemory);
+            }
+            Ok(NextLexeme::Stop(place, whole)) => {
+                return Ok(Lexed {
+                    lexemes,
+                    stop: place as u32,
+                    whole,
+                });
+            }
+            Ok(NextLexeme::Next(lexeme, size)) => {
+                at = lexeme.at as usize + size;
+                zero = is_zero(&lexeme.token);
+                if let Err(lexeme) = lexemes.push(lexeme) {
+                    drop((lexeme, lexemes));
+                    return Err(NoMemory);
+                }
+            }
         }
-        comment = comment_goes_on(comment, *byte);
-    }
-    text.len()
-}
-
-fn begins_digit(text: &[u8]) -> bool
-    ensures { result ≡ spec.begins_digit text.now }
-{
-    match text {
-        [first, ..] => first.is_ascii_digit(),
-        [] => false,
-    }
-}
-
-fn is_zero(token: &Token) -> bool
-    ensures { result ≡ spec.is_zero token.now }
-{
-    match token {
-        Token::Number(Some(number)) => *number == 0,
-        _ => false,
     }
 }
 
@@ -81,59 +74,59 @@ fn next_lexeme(alloc: Global, text: &[u8], at: usize, zero: bool) -> Result<Next
     if zero && begins_digit(rest) {
         return Ok(NextLexeme::Stop(start, false));
     }
-    match longest_token(alloc, &text[start..]) {
-        Err(NoMemory) => Err(NoMemory),
-        Ok(None) => Ok(NextLexeme::Stop(start, false)),
-        Ok(Some((token, size))) => {
+    match longest_token(alloc, &text[start..])? {
+        None => Ok(NextLexeme::Stop(start, false)),
+        Some((token, size)) => {
             let at = start as u32;
             Ok(NextLexeme::Next(Lexeme { token, at }, size))
         }
     }
 }
 
-/// The tokens of a text, up to its end or to the first place where none begins.
-#[derive(Drop)]
-pub struct Lexed {
-    pub lexemes: Items<Lexeme>,
-    pub stop: u32,
-    pub whole: bool,
+#[tactic(auto, using(crate::proofs::Gaps::gaps))]
+fn gap_length(text: &[u8]) -> usize
+    ensures value { result ≡ spec.gap_length false text.now }
+    ensures within { result ≤ length text.now }
+{
+    let mut comment = false;
+    for (place, byte) in text.iter().enumerate() {
+        if !is_in_gap(comment, *byte) {
+            return place;
+        }
+        comment = comment_goes_on(comment, *byte);
+    }
+    text.len()
 }
 
-/// The tokens of a text. A `lexed.stop` is the text's length where the tokens are those of the whole text, and else
-/// the first place where no token begins.
-pub fn lex(alloc: Global, text: &str) -> Result<Lexed, NoMemory>
-    requires { length text.now ≤ text_limit }
-    ensures { IfOk result (λ it. spec.Tokenizes text.now it.lexemes it.stop it.whole) }
+fn is_in_gap(comment: bool, byte: u8) -> bool
+    ensures { result ≡ spec.is_in_gap comment byte }
 {
-    let text = text.as_bytes();
-    let mut lexemes: Items<Lexeme> = Items::new(alloc);
-    let mut at = 0;
-    let mut zero = false;
-    'tokens: loop {
-        match next_lexeme(alloc, text, at, zero) {
-            Err(NoMemory) => {
-                drop(lexemes);
-                return Err(NoMemory);
-            }
-            Ok(NextLexeme::Stop(place, whole)) => {
-                let stop = place as u32;
-                return Ok(Lexed {
-                    lexemes,
-                    stop,
-                    whole,
-                });
-            }
-            Ok(NextLexeme::Next(lexeme, size)) => {
-                at = lexeme.at as usize + size;
-                zero = is_zero(&lexeme.token);
-                match lexemes.push(lexeme) {
-                    Ok(()) => {}
-                    Err(lexeme) => {
-                        drop((lexeme, lexemes));
-                        return Err(NoMemory);
-                    }
-                }
-            }
-        }
+    comment || matches!(byte, b' ' | b'\t' | b'\r' | b'\n' | b'#')
+}
+
+fn comment_goes_on(comment: bool, byte: u8) -> bool
+    ensures { result ≡ spec.comment_goes_on comment byte }
+{
+    if comment {
+        return byte != b'\n';
+    }
+    byte == b'#'
+}
+
+fn begins_digit(text: &[u8]) -> bool
+    ensures { result ≡ spec.begins_digit text.now }
+{
+    match text {
+        [first, ..] => first.is_ascii_digit(),
+        [] => false,
+    }
+}
+
+fn is_zero(token: &Token) -> bool
+    ensures { result ≡ spec.is_zero token.now }
+{
+    match token {
+        Token::Number(Some(number)) => *number == 0,
+        _ => false,
     }
 }

@@ -8,6 +8,20 @@ ghost use Rattle.cd_grammar.specs.Literals as spec;
 use cd_elem::{ByteList, Items, Literal, NoMemory, Token};
 use std::alloc::Global;
 
+/// The literal whose opening quote stands before this text, and its length.
+pub fn read_literal(alloc: Global, text: &[u8]) -> Result<Option<(Token, usize)>, NoMemory>
+    requires { IsUtf8 text.now }
+    ensures { IfOk result (λ found. found ≡ quotes.literal_found text.now) }
+{
+    match read_quoted(alloc, text)? {
+        None => Ok(None),
+        Some((bytes, size)) => match String::from_utf8(bytes.into_vec()) {
+            Ok(text) => Ok(Some((Token::Text(Literal::from(text)), size + 1))),
+            Err(_) => unreachable!(),
+        },
+    }
+}
+
 /// Where in a literal the next byte stands: behind how many digits of a number, and its value so far.
 #[derive(Clone, Copy)]
 enum LiteralState {
@@ -25,151 +39,6 @@ enum LiteralStep {
     Goes(LiteralState),
     Byte(u8),
     Char(char),
-}
-
-fn hex_value(byte: u8) -> Option<u8>
-    ensures value { result ≡ base16.hex_value byte }
-    ensures small { quotes.IsSmall result }
-{
-    if byte.is_ascii_digit() {
-        Some(byte - b'0')
-    } else if b'a' <= byte && byte <= b'f' {
-        Some(byte - 87)
-    } else if b'A' <= byte && byte <= b'F' {
-        Some(byte - 55)
-    } else {
-        None
-    }
-}
-
-fn short_escape(byte: u8) -> Option<u8>
-    ensures { result ≡ spec.short_escape byte }
-{
-    if byte == b'\\' {
-        Some(b'\\')
-    } else if byte == b'"' {
-        Some(b'"')
-    } else if byte == b'n' {
-        Some(b'\n')
-    } else if byte == b'r' {
-        Some(b'\r')
-    } else if byte == b't' {
-        Some(b'\t')
-    } else {
-        None
-    }
-}
-
-fn read_plain(byte: u8) -> LiteralStep
-    ensures { result ≡ quotes.read_plain byte }
-{
-    if byte == b'"' {
-        LiteralStep::Closes
-    } else if byte == b'\\' {
-        LiteralStep::Goes(LiteralState::Escape)
-    } else if byte == b'\n' {
-        LiteralStep::Fails
-    } else {
-        LiteralStep::Byte(byte)
-    }
-}
-
-fn read_escape(byte: u8) -> LiteralStep
-    ensures { result ≡ quotes.read_escape byte }
-{
-    match short_escape(byte) {
-        Some(meant) => LiteralStep::Byte(meant),
-        None => {
-            if byte == b'u' {
-                LiteralStep::Goes(LiteralState::Unicode)
-            } else {
-                LiteralStep::Fails
-            }
-        }
-    }
-}
-
-fn read_unicode(byte: u8) -> LiteralStep
-    ensures { result ≡ quotes.read_unicode byte }
-{
-    if byte == b'{' {
-        LiteralStep::Goes(LiteralState::Digits(0, 0))
-    } else {
-        LiteralStep::Fails
-    }
-}
-
-/// The character of so many digits.
-fn scalar_of(count: u32, value: u32) -> LiteralStep
-    ensures { result ≡ quotes.scalar_of count value }
-{
-    if count == 0 {
-        return LiteralStep::Fails;
-    }
-    match char::from_u32(value) {
-        Some(scalar) => LiteralStep::Char(scalar),
-        None => LiteralStep::Fails,
-    }
-}
-
-fn read_digit(count: u32, value: u32, byte: u8) -> LiteralStep
-    requires { quotes.HasDigits count value }
-    ensures value { result ≡ quotes.read_digit count value byte }
-    ensures fits { quotes.Continues result }
-{
-    if byte == b'}' {
-        return scalar_of(count, value);
-    }
-    if count >= 6 {
-        return LiteralStep::Fails;
-    }
-    match hex_value(byte) {
-        None => LiteralStep::Fails,
-        Some(digit) => LiteralStep::Goes(LiteralState::Digits(
-            count + 1,
-            value * 16 + u32::from(digit),
-        )),
-    }
-}
-
-fn read_byte(reading: LiteralState, byte: u8) -> LiteralStep
-    requires { quotes.Fits reading }
-    ensures value { result ≡ quotes.read_byte reading byte }
-    ensures fits { quotes.Continues result }
-{
-    match reading {
-        LiteralState::Plain => read_plain(byte),
-        LiteralState::Escape => read_escape(byte),
-        LiteralState::Unicode => read_unicode(byte),
-        LiteralState::Digits(count, value) => read_digit(count, value, byte),
-    }
-}
-
-fn with_byte(bytes: ByteList, byte: u8) -> Result<ByteList, NoMemory>
-    ensures { IfOk result (λ longer. longer ≡ bytes ++ byte ∷ []) }
-{
-    let mut bytes = bytes;
-    match bytes.push(byte) {
-        Ok(()) => Ok(bytes),
-        Err(_) => {
-            drop(bytes);
-            Err(NoMemory)
-        }
-    }
-}
-
-fn with_char(bytes: ByteList, scalar: char) -> Result<ByteList, NoMemory>
-    ensures { IfOk result (λ longer. longer ≡ bytes ++ encode_utf8 scalar) }
-{
-    let mut room = [0; 4];
-    let mut bytes = bytes;
-    match bytes.extend_from_slice(scalar.encode_utf8(&mut room).as_bytes()) {
-        Ok(()) => Ok(bytes),
-        Err(NoMemory) => {
-            drop(bytes);
-            Err(NoMemory)
-        }
-    }
 }
 
 /// The value of the literal whose opening quote stands before this text, and its bytes behind that quote.
@@ -201,16 +70,128 @@ fn read_quoted(alloc: Global, text: &[u8]) -> Result<Option<(ByteList, usize)>, 
     Ok(None)
 }
 
-/// The literal whose opening quote stands before this text, and its length.
-pub fn read_literal(alloc: Global, text: &[u8]) -> Result<Option<(Token, usize)>, NoMemory>
-    requires { IsUtf8 text.now }
-    ensures { IfOk result (λ found. found ≡ quotes.literal_found text.now) }
+fn read_byte(reading: LiteralState, byte: u8) -> LiteralStep
+    requires { quotes.Fits reading }
+    ensures value { result ≡ quotes.read_byte reading byte }
+    ensures fits { quotes.Continues result }
 {
-    match read_quoted(alloc, text)? {
-        None => Ok(None),
-        Some((bytes, size)) => match String::from_utf8(bytes.into_vec()) {
-            Ok(text) => Ok(Some((Token::Text(Literal::from(text)), size + 1))),
-            Err(_) => unreachable!(),
-        },
+    match reading {
+        LiteralState::Plain => read_plain(byte),
+        LiteralState::Escape => read_escape(byte),
+        LiteralState::Unicode => read_unicode(byte),
+        LiteralState::Digits(count, value) => read_digit(count, value, byte),
+    }
+}
+
+fn read_plain(byte: u8) -> LiteralStep
+    ensures { result ≡ quotes.read_plain byte }
+{
+    match byte {
+        b'"' => LiteralStep::Closes,
+        b'\\' => LiteralStep::Goes(LiteralState::Escape),
+        b'\n' => LiteralStep::Fails,
+        _ => LiteralStep::Byte(byte),
+    }
+}
+
+fn read_escape(byte: u8) -> LiteralStep
+    ensures { result ≡ quotes.read_escape byte }
+{
+    match short_escape(byte) {
+        Some(meant) => LiteralStep::Byte(meant),
+        None if byte == b'u' => LiteralStep::Goes(LiteralState::Unicode),
+        None => LiteralStep::Fails,
+    }
+}
+
+fn short_escape(byte: u8) -> Option<u8>
+    ensures { result ≡ spec.short_escape byte }
+{
+    match byte {
+        b'\\' => Some(b'\\'),
+        b'"' => Some(b'"'),
+        b'n' => Some(b'\n'),
+        b'r' => Some(b'\r'),
+        b't' => Some(b'\t'),
+        _ => None,
+    }
+}
+
+fn read_unicode(byte: u8) -> LiteralStep
+    ensures { result ≡ quotes.read_unicode byte }
+{
+    match byte {
+        b'{' => LiteralStep::Goes(LiteralState::Digits(0, 0)),
+        _ => LiteralStep::Fails,
+    }
+}
+
+fn read_digit(count: u32, value: u32, byte: u8) -> LiteralStep
+    requires { quotes.HasDigits count value }
+    ensures value { result ≡ quotes.read_digit count value byte }
+    ensures fits { quotes.Continues result }
+{
+    if byte == b'}' {
+        return scalar_of(count, value);
+    }
+    if count >= 6 {
+        return LiteralStep::Fails;
+    }
+    match hex_value(byte) {
+        None => LiteralStep::Fails,
+        Some(digit) => LiteralStep::Goes(LiteralState::Digits(
+            count + 1,
+            value * 16 + u32::from(digit),
+        )),
+    }
+}
+
+fn hex_value(byte: u8) -> Option<u8>
+    ensures value { result ≡ base16.hex_value byte }
+    ensures small { quotes.IsSmall result }
+{
+    match byte {
+        b'0'..=b'9' => Some(byte - b'0'),
+        b'a'..=b'f' => Some(byte - b'a' + 10),
+        b'A'..=b'F' => Some(byte - b'A' + 10),
+        _ => None,
+    }
+}
+
+/// The character of so many digits.
+fn scalar_of(count: u32, value: u32) -> LiteralStep
+    ensures { result ≡ quotes.scalar_of count value }
+{
+    if count == 0 {
+        return LiteralStep::Fails;
+    }
+    match char::from_u32(value) {
+        Some(scalar) => LiteralStep::Char(scalar),
+        None => LiteralStep::Fails,
+    }
+}
+
+fn with_byte(mut bytes: ByteList, byte: u8) -> Result<ByteList, NoMemory>
+    ensures { IfOk result (λ longer. longer ≡ bytes ++ byte ∷ []) }
+{
+    match bytes.push(byte) {
+        Ok(()) => Ok(bytes),
+        Err(_) => {
+            drop(bytes);
+            Err(NoMemory)
+        }
+    }
+}
+
+fn with_char(mut bytes: ByteList, scalar: char) -> Result<ByteList, NoMemory>
+    ensures { IfOk result (λ longer. longer ≡ bytes ++ encode_utf8 scalar) }
+{
+    let mut room = [0; 4];
+    match bytes.extend_from_slice(scalar.encode_utf8(&mut room).as_bytes()) {
+        Ok(()) => Ok(bytes),
+        Err(NoMemory) => {
+            drop(bytes);
+            Err(NoMemory)
+        }
     }
 }

@@ -12,6 +12,41 @@ use crate::literal::read_literal;
 use cd_elem::{Join, Name, NoMemory, Sign, Token};
 use std::alloc::Global;
 
+/// The longest token at the front of a text, and its length. Where the front is a quote, all of it has to be a text.
+pub fn longest_token(alloc: Global, text: &[u8]) -> Result<Option<(Token, usize)>, NoMemory>
+    requires { scanner.IsQuoted text.now }
+    ensures { IfOk result (λ found. scanner.FindsLongest text.now found) }
+{
+    find_token(alloc, text)
+}
+
+fn find_token(alloc: Global, text: &[u8]) -> Result<Option<(Token, usize)>, NoMemory>
+    requires { scanner.IsQuoted text.now }
+    ensures { IfOk result (λ found. found ≡ scanner.token_found text.now) }
+{
+    match text {
+        [] => Ok(None),
+        [first, rest @ ..] => match *first {
+            first if first.is_ascii_alphabetic() => {
+                find_name(alloc, text, count_alphanumerics(rest) + 1)
+            }
+            b'0' => Ok(Some((Token::Number(Some(0)), 1))),
+            first if first.is_ascii_digit() => Ok(find_number(text, count_digits(rest) + 1)),
+            b'"' => read_literal(alloc, rest),
+            first => Ok(find_sign(first, rest)),
+        },
+    }
+}
+
+fn find_name(alloc: Global, text: &[u8], size: usize) -> Result<Option<(Token, usize)>, NoMemory>
+    requires within { size ≤ length text.now }
+    requires ascii { IsAscii (take size text.now) }
+    ensures { IfOk result (λ found. found ≡ scanner.name_found text.now size) }
+{
+    let token = name_or_keyword(alloc, &text[..size])?;
+    Ok(Some((token, size)))
+}
+
 #[tactic(auto, using(std::proofs::lemmas::List::Sums::prefix_len_is))]
 fn count_alphanumerics(text: &[u8]) -> usize
     ensures value { result ≡ prefix_len is_ascii_alphanumeric text.now }
@@ -25,6 +60,26 @@ fn count_alphanumerics(text: &[u8]) -> usize
     text.len()
 }
 
+fn name_or_keyword(alloc: Global, name: &[u8]) -> Result<Token, NoMemory>
+    requires { IsAscii name.now }
+    ensures { IfOk result (λ token. token ≡ spec.name_or_keyword name.now (words.reserved name.now)) }
+{
+    match reserved(name) {
+        Some(word) => Ok(Token::Word(word)),
+        None => match str::from_utf8(name) {
+            Ok(name) => Ok(Token::Named(Name::new(alloc, name)?)),
+            Err(_) => unreachable!(),
+        },
+    }
+}
+
+fn find_number(text: &[u8], size: usize) -> Option<(Token, usize)>
+    requires { size ≤ length text.now }
+    ensures { result ≡ scanner.number_found text.now size }
+{
+    Some((Token::Number(number_value(&text[..size])), size))
+}
+
 #[tactic(auto, using(std::proofs::lemmas::List::Sums::prefix_len_is))]
 fn count_digits(text: &[u8]) -> usize
     ensures value { result ≡ prefix_len is_ascii_digit text.now }
@@ -36,6 +91,30 @@ fn count_digits(text: &[u8]) -> usize
         }
     }
     text.len()
+}
+
+#[tactic(auto, using(crate::proofs::Digits::numbers))]
+fn number_value(digits: &[u8]) -> Option<u64>
+    ensures { result ≡ spec.number_value digits.now }
+{
+    let mut value: u64 = 0;
+    for byte in digits {
+        let digit = u64::from(byte.saturating_sub(b'0'));
+        value = value.checked_mul(10)?.checked_add(digit)?;
+    }
+    Some(value)
+}
+
+fn find_sign(first: u8, rest: &[u8]) -> Option<(Token, usize)>
+    ensures { result ≡ scanner.sign_found first rest.now }
+{
+    match rest {
+        [second, ..] if first == b'|' => match bar_sign(*second) {
+            None => Some((Token::Sign(Sign::Operator(Join::Plain)), 1)),
+            Some(sign) => Some((Token::Sign(sign), 2)),
+        },
+        _ => sign_of_size(1, one_sign(first)),
+    }
 }
 
 fn one_sign(sign: u8) -> Option<Sign>
@@ -69,110 +148,8 @@ fn bar_sign(sign: u8) -> Option<Sign>
     }
 }
 
-fn name_or_keyword(alloc: Global, name: &[u8]) -> Result<Token, NoMemory>
-    requires { IsAscii name.now }
-    ensures { IfOk result (λ token. token ≡ spec.name_or_keyword name.now (words.reserved name.now)) }
-{
-    match reserved(name) {
-        Some(word) => Ok(Token::Word(word)),
-        None => match str::from_utf8(name) {
-            Ok(name) => Ok(Token::Named(Name::new(alloc, name)?)),
-            Err(_) => unreachable!(),
-        },
-    }
-}
-
-#[tactic(auto, using(crate::proofs::Digits::numbers))]
-fn number_value(digits: &[u8]) -> Option<u64>
-    ensures { result ≡ spec.number_value digits.now }
-{
-    let mut value: u64 = 0;
-    for byte in digits {
-        let digit = u64::from(byte.saturating_sub(b'0'));
-        match value.checked_mul(10) {
-            None => return None,
-            Some(tens) => match tens.checked_add(digit) {
-                None => return None,
-                Some(sum) => value = sum,
-            },
-        }
-    }
-    Some(value)
-}
-
 fn sign_of_size(size: usize, sign: Option<Sign>) -> Option<(Token, usize)>
     ensures { result ≡ scanner.sign_of_size size sign }
 {
-    match sign {
-        None => None,
-        Some(sign) => Some((Token::Sign(sign), size)),
-    }
-}
-
-fn find_sign(first: u8, rest: &[u8]) -> Option<(Token, usize)>
-    ensures { result ≡ scanner.sign_found first rest.now }
-{
-    match rest {
-        [] => sign_of_size(1, one_sign(first)),
-        [second, ..] => {
-            if first == b'|' {
-                match bar_sign(*second) {
-                    None => Some((Token::Sign(Sign::Operator(Join::Plain)), 1)),
-                    Some(sign) => Some((Token::Sign(sign), 2)),
-                }
-            } else {
-                sign_of_size(1, one_sign(first))
-            }
-        }
-    }
-}
-
-fn find_name(alloc: Global, text: &[u8], size: usize) -> Result<Option<(Token, usize)>, NoMemory>
-    requires within { size ≤ length text.now }
-    requires ascii { IsAscii (take size text.now) }
-    ensures { IfOk result (λ found. found ≡ scanner.name_found text.now size) }
-{
-    let token = name_or_keyword(alloc, &text[..size])?;
-    Ok(Some((token, size)))
-}
-
-fn find_number(text: &[u8], size: usize) -> Option<(Token, usize)>
-    requires { size ≤ length text.now }
-    ensures { result ≡ scanner.number_found text.now size }
-{
-    Some((Token::Number(number_value(&text[..size])), size))
-}
-
-fn find_token(alloc: Global, text: &[u8]) -> Result<Option<(Token, usize)>, NoMemory>
-    requires { scanner.IsQuoted text.now }
-    ensures { IfOk result (λ found. found ≡ scanner.token_found text.now) }
-{
-    match text {
-        [] => Ok(None),
-        [first, rest @ ..] => {
-            if first.is_ascii_alphabetic() {
-                let size = count_alphanumerics(rest) + 1;
-                return find_name(alloc, text, size);
-            }
-            if *first == b'0' {
-                return Ok(Some((Token::Number(Some(0)), 1)));
-            }
-            if first.is_ascii_digit() {
-                let size = count_digits(rest) + 1;
-                return Ok(find_number(text, size));
-            }
-            if *first == b'"' {
-                return read_literal(alloc, rest);
-            }
-            Ok(find_sign(*first, rest))
-        }
-    }
-}
-
-/// The longest token at the front of a text, and its length. Where the front is a quote, all of it has to be a text.
-pub fn longest_token(alloc: Global, text: &[u8]) -> Result<Option<(Token, usize)>, NoMemory>
-    requires { scanner.IsQuoted text.now }
-    ensures { IfOk result (λ found. scanner.FindsLongest text.now found) }
-{
-    find_token(alloc, text)
+    sign.map(|sign| (Token::Sign(sign), size))
 }
