@@ -8,6 +8,7 @@ use crate::word_trees::number_of;
 use cd_elem::{NoMemory, Pipe, PipeList, Section, Sign, Zip};
 use std::alloc::Global;
 
+/// What a sign makes of the innermost bracket, where a pipe has ended in it.
 pub fn leave_bracket(
     alloc: Global,
     frame: Frame,
@@ -80,9 +81,8 @@ fn leave_block(
 fn close_block(alloc: Global, block: Block, pipe: Pipe) -> Result<Pipe, NoMemory>
     ensures { IfOk result (λ form. form ≡ spec.close_block block pipe) }
 {
-    let body = match box_pipe(alloc, pipe) {
-        Ok(body) => body,
-        Err(NoMemory) => return Err(let_go(block)),
+    let Ok(body) = box_pipe(alloc, pipe) else {
+        return Err(let_go(block));
     };
     match block {
         Block::Counts(Section::Exactly, count) => Ok(Pipe::Exactly(number_of(count), body)),

@@ -216,9 +216,8 @@ fn extend_by_number(head: Head, number: Option<u64>) -> Option<Extension>
 fn extend_by_text(alloc: Global, head: Head, text: &str) -> Result<Option<Extension>, NoMemory>
     ensures { IfOk result (λ extension. extension ≡ spec.extend_by_text head text.now) }
 {
-    let literal = match Literal::new(alloc, text) {
-        Ok(literal) => literal,
-        Err(NoMemory) => return Err(let_go(head)),
+    let Ok(literal) = Literal::new(alloc, text) else {
+        return Err(let_go(head));
     };
     match head {
         Head::Is(word, negated) => {

@@ -59,6 +59,7 @@ impl OpenPipe {
         Progress::Reaches(Position::Inside(self, expected))
     }
 
+    /// The place behind a token that a part begins or goes on with, if it is one.
     fn go_on(self, extension: Option<Extension>) -> Result<Option<Progress>, NoMemory>
         ensures { IfOk result (λ progress. progress ≡ spec.after_extension_if_any self extension) }
     {
@@ -99,6 +100,7 @@ impl OpenPipe {
         }
     }
 
+    /// The place behind a part and what stands behind it.
     fn follow_part(
         self,
         alloc: Global,
@@ -197,6 +199,7 @@ impl OpenPipe {
         }
     }
 
+    /// The place behind the literal of `zipSource`.
     fn read_zip_text(
         self,
         alloc: Global,
@@ -218,6 +221,7 @@ impl OpenPipe {
         }
     }
 
+    /// The place behind the bracket that closes `zipSource`.
     fn close_zip(self, zip: Pipe, token: &Token) -> Option<Progress>
         ensures { result ≡ spec.close_zip self zip token.now }
     {
