@@ -15,8 +15,8 @@ use Rattle.cd_meaning.specs.Stream.{Value, Done}
 use Rattle.cd_meaning.specs.RunShapes.{Mark, AtEnd}
 use Rattle.cd_meaning.specs.TakeForm.{front_ending, ending_of, take_script}
 use Rattle.cd_meaning.proofs.TakeForm.{form_ending, form_puts, whole_puts, whole_ends}
-use Rattle.cd_cli.specs.declared.cause.Cause.{Cause}
-use Rattle.cd_cli.specs.declared.cause.Cause.TheVariants.{Success, NotBuilt, OutsideFault, NoMemory as WithoutMemory}
+use Rattle.cd_report.specs.declared.cause.Cause.{Cause}
+use Rattle.cd_report.specs.declared.cause.Cause.TheVariants.{Success, NotBuilt, OutsideFault, NoMemory as WithoutMemory}
 use Rattle.cd_cli.specs.Cause.{cause_of, script_cause, words_cause, HasOrigin}
 use Rattle.cd_cli.specs.Form.{NoForm}
 use Rattle.cd_cli.specs.Judge.{read_limit, IsScriptOf, HasTree, HasNone, IsRefused, too_long, no_utf8, syntax, limit}

@@ -1,6 +1,6 @@
 -- What a script's bytes are judged to be, from what is found in them.
-use Rattle.std.proofs.Common.{◌≡◌, ◌⊎◌, inl, inr, ◌≤◌, ◌<◌, ℕ, List, length, Result, Ok, Err, refl, sym, subst, arith}
-use Rattle.std.specs.Prelude.{IsUtf8, IsErrAnd}
+use Rattle.std.proofs.Common.{◌≡◌, ◌⊎◌, inl, inr, ◌≤◌, ◌<◌, ℕ, List, length, Err, refl, sym, subst, arith}
+use Rattle.std.specs.Prelude.{IsUtf8}
 use Rattle.std.specs.Str.{IsValidUpTo}
 use Rattle.cd_grammar.specs.Limits.{text_limit}
 use Rattle.cd_elem.specs.declared.script.Stmt.{Stmt}
@@ -8,10 +8,9 @@ use Rattle.cd_grammar.specs.Refusals.{IsText}
 use Rattle.cd_script.specs.declared.refusal.ScriptRefusal.{ScriptRefusal}
 use Rattle.cd_script.specs.declared.refusal.ScriptRefusal.TheVariants.{Syntax, Limit, NoMemory}
 use Rattle.cd_script.specs.Answers.{Parses, AnswersOnly}
-use Rattle.cd_cli.specs.declared.cause.Cause.{Cause}
-use Rattle.cd_cli.specs.declared.cause.Cause.TheVariants.{ScriptLimit, ScriptText, NoMemory as WithoutMemory}
+use Rattle.cd_report.specs.declared.cause.Cause.TheVariants.{ScriptLimit, ScriptText, NoMemory as WithoutMemory}
 use Rattle.cd_cli.specs.Cause.{cause_of_refusal}
-use Rattle.cd_cli.specs.Judge.{IsFit, HasTree, HasNone, too_long, no_utf8, syntax, limit, Judged}
+use Rattle.cd_cli.specs.Judge.{IsFit, HasTree, HasNone, too_long, no_utf8, syntax, limit}
 
 module _ (text : List ℕ) where
   pub long_has_none : text_limit < length text → HasNone text ScriptLimit
@@ -28,10 +27,6 @@ module _ (text : List ℕ) where
   refused_has_none (Syntax at) fit parses gives = inr (record { why = syntax at fit parses; none = λ tree is. gives tree is.text_is })
   refused_has_none (Limit which at) fit parses gives = inr (record { why = limit which at fit parses; none = λ tree is. gives tree is.text_is })
   refused_has_none NoMemory fit parses gives = inl refl
-
-  pub judged_err : (result : Result (List Stmt) Cause) (cause : Cause) → IsErrAnd result (λ y. y ≡ cause) → (cause ≡ WithoutMemory) ⊎ HasNone text cause → Judged text result
-  judged_err (Ok tree) cause is none = absurd is
-  judged_err (Err other) cause is none = subst (λ (c : Cause). (c ≡ WithoutMemory) ⊎ HasNone text c) (sym is) none
 
   -- what is parsed is the text
   module _ (read : List ℕ) (same : read ≡ text) (few : length text ≤ text_limit) (utf8 : IsUtf8 text) where

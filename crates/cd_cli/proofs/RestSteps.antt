@@ -1,5 +1,5 @@
 -- What stays of the files.
-use Rattle.std.proofs.Common.{◌≡◌, List, ℕ, sym, ◌∙◌, ap, subst}
+use Rattle.std.proofs.Common.{◌≡◌, sym, ◌∙◌, ap, subst}
 use Rattle.cd_world.specs.Files.{Files}
 use Rattle.cd_cli.specs.Take.{KeepsRest}
 

@@ -1,5 +1,5 @@
 -- What a run of a file's first bytes leaves, from what its calls leave.
-use Rattle.std.proofs.Common.{◌≡◌, ◌≤◌, ℕ, length, inl, inr, List, [], ◌∷◌, ◌++◌, take, drop, Result, Ok, Err, refl, sym, ◌∙◌, ap, subst, arith, append_assoc, Bool, true, false, if◌then◌else◌, ◌==◌}
+use Rattle.std.proofs.Common.{◌≡◌, ◌≤◌, ℕ, length, inl, inr, List, [], ◌∷◌, ◌++◌, take, drop, Result, Ok, Err, refl, sym, ◌∙◌, ap, subst, arith, append_assoc, Bool, true, if◌then◌else◌, ◌==◌}
 use Rattle.std.specs.Prelude.{OnOk}
 use Rattle.std.specs.Result.{IsErrAnd}
 use Rattle.std.proofs.lemmas.List.{append-nil}
@@ -9,7 +9,7 @@ use Rattle.std.proofs.Math.Seq.{take-nil}
 use Rattle.cd_world.specs.declared.event.Descriptor.{Descriptor}
 use Rattle.cd_world.specs.declared.event.Use.TheVariants.{Reading}
 use Rattle.cd_world.specs.declared.event.Event.{Event}
-use Rattle.cd_world.specs.declared.event.Event.TheVariants.{OpenedRead, Created, Marked, OpenFailed, Gave, GaveEnd, ReadFailed, Wrote, WriteFailed, Closed, CloseFailed as CloseFailing}
+use Rattle.cd_world.specs.declared.event.Event.TheVariants.{OpenedRead, OpenFailed, Closed, CloseFailed as CloseFailing}
 use Rattle.cd_world.specs.declared.world.WorldError.{WorldError}
 use Rattle.cd_world.specs.declared.world.WorldError.TheVariants.{Failed, NoMemory}
 use Rattle.cd_world.specs.declared.world.CloseFailed.{CloseFailed}

@@ -6,22 +6,10 @@ use Rattle.cd_world.specs.declared.world.WorldError.{WorldError}
 use Rattle.cd_world.specs.declared.world.WorldError.TheVariants.{Failed, NoMemory}
 use Rattle.cd_script.specs.declared.refusal.ScriptRefusal.{ScriptRefusal}
 use Rattle.cd_script.specs.declared.refusal.ScriptRefusal.TheVariants as refusal
-use Rattle.cd_cli.specs.declared.cause.Cause.{Cause}
+use Rattle.cd_report.specs.declared.cause.Cause.{Cause}
 use Rattle.cd_cli.specs.declared.arguments.WordsRefusal.{WordsRefusal}
 use Rattle.cd_cli.specs.declared.arguments.WordsRefusal.TheVariants as words
-use Rattle.cd_cli.specs.declared.cause.Cause.TheVariants as cause
-
-abbrev pub status_of : Cause → ℕ
-status_of cause.Success = 0
-status_of cause.Usage = 2
-status_of cause.ScriptFault = 3
-status_of cause.ScriptLimit = 4
-status_of (cause.ScriptText at) = 4
-status_of (cause.Syntax at) = 4
-status_of (cause.Limit which at) = 4
-status_of cause.OutsideFault = 7
-status_of cause.NoMemory = 9
-status_of cause.NotBuilt = 10
+use Rattle.cd_report.specs.declared.cause.Cause.TheVariants as cause
 
 -- the cause that a refused call is, once the script was read
 abbrev pub cause_of : WorldError → Cause

@@ -11,8 +11,8 @@ use Rattle.cd_meaning.specs.Run.{ending}
 use Rattle.cd_meaning.specs.Scripts.{script_run, standard_output, whole_files}
 use Rattle.cd_meaning.specs.TakeForm.{take_script}
 use Rattle.cd_grammar.specs.CanonicalText.{canonical_text}
-use Rattle.cd_cli.specs.declared.cause.Cause.{Cause}
-use Rattle.cd_cli.specs.declared.cause.Cause.TheVariants.{Success, Usage, ScriptFault, NotBuilt, OutsideFault, NoMemory}
+use Rattle.cd_report.specs.declared.cause.Cause.{Cause}
+use Rattle.cd_report.specs.declared.cause.Cause.TheVariants.{Success, Usage, ScriptFault, NotBuilt, OutsideFault, NoMemory}
 use Rattle.cd_cli.specs.Cause.{script_cause}
 use Rattle.cd_cli.specs.declared.arguments.Command.{Command}
 use Rattle.cd_cli.specs.declared.arguments.Command.TheVariants.{Run, Show}

@@ -5,8 +5,8 @@ use Rattle.cd_elem.specs.declared.script.Stmt.{Stmt}
 use Rattle.cd_elem.specs.declared.token.LimitKind.{LimitKind}
 use Rattle.cd_grammar.specs.Limits.{text_limit}
 use Rattle.cd_grammar.specs.Refusals.{IsText, IsSyntaxAt, IsLimitAt}
-use Rattle.cd_cli.specs.declared.cause.Cause.{Cause}
-use Rattle.cd_cli.specs.declared.cause.Cause.TheVariants.{ScriptLimit, ScriptText, Syntax, Limit, NoMemory}
+use Rattle.cd_report.specs.declared.cause.Cause.{Cause}
+use Rattle.cd_report.specs.declared.cause.Cause.TheVariants.{ScriptLimit, ScriptText, Syntax, Limit, NoMemory}
 
 -- so many bytes of a script are read at most: one more than its text may have
 abbrev pub read_limit : ℕ

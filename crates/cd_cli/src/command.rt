@@ -2,17 +2,19 @@
 ghost use Rattle.std.specs.Prelude.{◌≡◌, List, IsTrue, map};
 ghost use Rattle.std.specs.String.{string_bytes};
 ghost use Rattle.cd_grammar.specs.Canonical.{IsTreeWithin};
-ghost use Rattle.cd_cli.specs.Cause.{HasOrigin, status_of};
+ghost use Rattle.cd_report.specs.Cause.{status_of};
+ghost use Rattle.cd_cli.specs.Cause.{HasOrigin};
 ghost use Rattle.cd_cli.specs.Arguments.{script_of};
 ghost use Rattle.cd_cli.specs.Command.{Does, RunsTree, ShowsTree, SendsFor, SendsTree, SendsText, Judges, Logs, ReadsAndJudges, Calls, Called, Sends, SendsScript, AnswersCommand, Sent, Completes};
 
 use crate::arguments::{Command, read_words};
-use crate::cause::{Cause, Outcome, script_cause};
+use crate::cause::{Outcome, run_cause, script_cause};
 use crate::form::{Form, form_of};
 use crate::judge::judge;
 use crate::script::read_script;
 use crate::take::{run_take, write_all};
 use cd_elem::Script;
+use cd_report::Cause;
 use cd_script::print;
 use cd_world::World;
 use std::alloc::Global;
@@ -95,7 +97,7 @@ fn run_tree<W: World>(alloc: Global, world: &mut W, script: &Script) -> Cause
     };
     match run_take(alloc, world, name, count) {
         Ok(()) => Cause::Success,
-        Err(error) => Cause::from(error),
+        Err(error) => run_cause(error),
     }
 }
 
@@ -112,6 +114,6 @@ fn show_tree<W: World>(alloc: Global, world: &mut W, script: &Script) -> Cause
     };
     match write_all(world, text.as_bytes()) {
         Ok(()) => Cause::Success,
-        Err(error) => Cause::from(error),
+        Err(error) => run_cause(error),
     }
 }

@@ -3,8 +3,9 @@ ghost use Rattle.std.specs.Prelude.{IfOk};
 ghost use Rattle.cd_grammar.specs.Canonical.{IsTreeWithin};
 ghost use Rattle.cd_cli.specs.Judge.{Judged};
 
-use crate::cause::Cause;
+use crate::cause::refusal_cause;
 use cd_elem::Script;
+use cd_report::Cause;
 use cd_script::{TEXT_LIMIT, parse};
 use simdutf8::compat;
 use std::alloc::Global;
@@ -18,7 +19,10 @@ pub fn judge(alloc: Global, text: &[u8]) -> Result<Script, Cause>
         return Err(Cause::ScriptLimit);
     }
     match compat::from_utf8(text) {
-        Ok(text) => Ok(parse(alloc, text)?),
+        Ok(text) => match parse(alloc, text) {
+            Ok(script) => Ok(script),
+            Err(refusal) => Err(refusal_cause(refusal)),
+        },
         Err(error) => Err(Cause::ScriptText {
             at: error.valid_up_to() as u32,
         }),

@@ -10,5 +10,5 @@ mod script;
 mod take;
 
 pub use arguments::{Command, WordsRefusal, read_words};
-pub use cause::{Cause, Outcome};
+pub use cause::Outcome;
 pub use command::conduit_main;

@@ -1,8 +1,8 @@
 use Rattle.std.proofs.Common.{◌≡◌, ◌⊎◌, sym, ◌∙◌, subst, map}
 use Rattle.std.specs.String.{string_bytes}
 use Rattle.cd_world.specs.Causes.{Rose}
-use Rattle.cd_cli.specs.declared.cause.Cause.{Cause}
-use Rattle.cd_cli.specs.declared.cause.Cause.TheVariants.{Success, NoMemory}
+use Rattle.cd_report.specs.declared.cause.Cause.{Cause}
+use Rattle.cd_report.specs.declared.cause.Cause.TheVariants.{Success, NoMemory}
 use Rattle.cd_cli.specs.Cause.{words_cause}
 use Rattle.cd_cli.specs.Command.{Calls, Called, AnswersCommand, Sent}
 use Rattle.cd_cli.proofs.CommandSteps.{words_send, words_log, refused_send, refused_log, command_completes, refused_completes}

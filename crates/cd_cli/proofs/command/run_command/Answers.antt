@@ -1,5 +1,5 @@
 use Rattle.std.proofs.Common.{sym, subst}
-use Rattle.cd_cli.specs.declared.cause.Cause.{Cause}
+use Rattle.cd_report.specs.declared.cause.Cause.{Cause}
 use Rattle.cd_cli.specs.Arguments.{script_of}
 use Rattle.cd_cli.specs.Command.{Does, ReadsAndJudges, Called, SendsFor, SendsScript, Sent}
 use Rattle.cd_cli.proofs.CommandSteps.{script_sends, script_logs, unread_sends, unread_logs}

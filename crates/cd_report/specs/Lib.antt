@@ -1,0 +1,3 @@
+pub mod Cause
+pub mod CauseText
+pub mod Rows

@@ -1,0 +1,63 @@
+-- Each cause with its line, by computation.
+use Rattle.std.specs.Prelude.{◌≡◌, refl, [], codes}
+use Rattle.std.specs.Fmt.{digits}
+use Rattle.cd_elem.specs.declared.token.LimitKind.TheVariants as limit
+use Rattle.cd_report.specs.declared.cause.Cause.TheVariants as cause
+use Rattle.cd_report.specs.CauseText.{cause_text}
+
+success_is_silent : cause_text cause.Success ≡ []
+success_is_silent = refl
+
+usage : cause_text cause.Usage ≡ codes "conduit: usage: conduit (run SCRIPT | show SCRIPT)\n"
+usage = refl
+
+unread_script : cause_text cause.ScriptFault ≡ codes "conduit: the script could not be read\n"
+unread_script = refl
+
+long_script : cause_text cause.ScriptLimit ≡ codes "conduit: the script is longer than 65536 bytes\n"
+long_script = refl
+
+bad_text_at_once : cause_text (cause.ScriptText 0) ≡ codes "conduit: the script is not UTF-8 at byte 0\n"
+unfolding digits
+bad_text_at_once = refl
+
+bad_text_at_the_end : cause_text (cause.ScriptText 65535) ≡ codes "conduit: the script is not UTF-8 at byte 65535\n"
+unfolding digits
+bad_text_at_the_end = refl
+
+syntax_at_once : cause_text (cause.Syntax 0) ≡ codes "conduit: syntax error at byte 0\n"
+unfolding digits
+syntax_at_once = refl
+
+syntax_within : cause_text (cause.Syntax 107) ≡ codes "conduit: syntax error at byte 107\n"
+unfolding digits
+syntax_within = refl
+
+syntax_at_the_end : cause_text (cause.Syntax 65536) ≡ codes "conduit: syntax error at byte 65536\n"
+unfolding digits
+syntax_at_the_end = refl
+
+tokens_passed : cause_text (cause.Limit limit.Tokens 16384) ≡ codes "conduit: limit of tokens passed at byte 16384\n"
+unfolding digits
+tokens_passed = refl
+
+depth_passed : cause_text (cause.Limit limit.Depth 36) ≡ codes "conduit: limit of depth passed at byte 36\n"
+unfolding digits
+depth_passed = refl
+
+literal_passed : cause_text (cause.Limit limit.Literal 65536) ≡ codes "conduit: limit of literal passed at byte 65536\n"
+unfolding digits
+literal_passed = refl
+
+number_passed : cause_text (cause.Limit limit.Number 0) ≡ codes "conduit: limit of number passed at byte 0\n"
+unfolding digits
+number_passed = refl
+
+not_built : cause_text cause.NotBuilt ≡ codes "conduit: this form is not built yet\n"
+not_built = refl
+
+outside_fault : cause_text cause.OutsideFault ≡ codes "conduit: a file could not be opened, read, written or closed\n"
+outside_fault = refl
+
+no_memory : cause_text cause.NoMemory ≡ codes "conduit: out of memory\n"
+no_memory = refl

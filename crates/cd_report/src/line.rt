@@ -1,0 +1,61 @@
+// The line of a cause.
+ghost use Rattle.std.specs.Prelude.{◌≡◌, IfOk, string_bytes};
+ghost use Rattle.cd_report.specs.declared.cause.Cause.TheVariants.{NoMemory as MemoryWanting};
+ghost use Rattle.cd_report.specs.CauseText as spec;
+
+use crate::cause::Cause;
+use cd_elem::{LimitKind, NoMemory};
+use std::alloc::Global;
+
+/// The commands and their words, as they are now.
+const USAGE: &str = "usage: conduit (run SCRIPT | show SCRIPT)";
+
+/// The line that tells a cause on standard error, with its newline. Success has none: its text is empty.
+pub fn cause_text(alloc: Global, cause: Cause) -> Result<String, NoMemory>
+    ensures { IfOk result (λ text. string_bytes text ≡ spec.cause_text cause) }
+{
+    match cause {
+        Cause::Success => Ok(String::new(alloc)),
+        Cause::Usage => line(alloc, USAGE),
+        Cause::ScriptFault => line(alloc, "the script could not be read"),
+        Cause::ScriptLimit => line(alloc, "the script is longer than 65536 bytes"),
+        Cause::ScriptText { at } => line_at(alloc, "the script is not UTF-8", at),
+        Cause::Syntax { at } => line_at(alloc, "syntax error", at),
+        Cause::Limit { which, at } => line_at(alloc, limit_passed(which), at),
+        Cause::NotBuilt => line(alloc, "this form is not built yet"),
+        Cause::OutsideFault => line(alloc, "a file could not be opened, read, written or closed"),
+        Cause::NoMemory => line(alloc, "out of memory"),
+    }
+}
+
+/// The line of want of memory, which takes none.
+pub fn memory_text() -> &'static str
+    ensures { result.now ≡ spec.cause_text MemoryWanting }
+{
+    "conduit: out of memory\n"
+}
+
+/// A line of the program's.
+fn line(alloc: Global, what: &str) -> Result<String, NoMemory>
+    ensures { IfOk result (λ text. string_bytes text ≡ spec.line what.now) }
+{
+    Ok(format!(in alloc; "conduit: {what}\n")?)
+}
+
+/// A line about a byte of the script.
+fn line_at(alloc: Global, what: &str, at: u32) -> Result<String, NoMemory>
+    ensures { IfOk result (λ text. string_bytes text ≡ spec.line_at what.now at) }
+{
+    Ok(format!(in alloc; "conduit: {what} at byte {at}\n")?)
+}
+
+fn limit_passed(which: LimitKind) -> &'static str
+    ensures { result.now ≡ spec.limit_passed which }
+{
+    match which {
+        LimitKind::Tokens => "limit of tokens passed",
+        LimitKind::Depth => "limit of depth passed",
+        LimitKind::Literal => "limit of literal passed",
+        LimitKind::Number => "limit of number passed",
+    }
+}
