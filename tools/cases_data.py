@@ -150,11 +150,36 @@ def command_case(title, words, files, answers, cut=0, fails=()):
     return lines, answers
 
 
+# The line of each cause that tells no byte, and the front of each that tells one.
+LINES = {
+    "Success": None,
+    "Usage": "usage: conduit (run SCRIPT | show SCRIPT)",
+    "ScriptFault": "the script could not be read",
+    "ScriptLimit": "the script is longer than 65536 bytes",
+    "NotBuilt": "this form is not built yet",
+    "OutsideFault": "a file could not be opened, read, written or closed",
+    "NoMemory": "out of memory",
+    "ScriptText": "the script is not UTF-8",
+    "Syntax": "syntax error",
+    "Limit": "limit of {} passed",
+}
+
+
+def line_of(cause):
+    """What standard error gets under a cause, as `Limit { which: Depth, at: 36 }`."""
+    name, which, at = re.fullmatch(r"(\w+)(?: \{ (?:which: (\w+), )?at: (\d+) \})?", cause).groups()
+    if LINES[name] is None:
+        return ""
+    return "conduit: " + LINES[name].format((which or "").lower()) + (f" at byte {at}" if at else "") + "\n"
+
+
 def answers_of(case):
     calls = "".join(f" {call}," for call in case["calls"])
+    errors = case.get("errors", line_of(case["cause"]))
     return [
-        f"= {case['cause']}, status {case['status']}", f"= failed {calls.count(' failed,')}", f"= calls{calls}",
-        f"= out {escaped(list(case['out'].encode()))}",
+        f"= {case['cause']}, status {case['status']}, said {case.get('said', 'Whole')}",
+        f"= failed {calls.count(' failed,')}", f"= calls{calls}",
+        f"= out {escaped(list(case['out'].encode()))}", f"= errors {escaped(list(errors.encode()))}",
     ]
 
 

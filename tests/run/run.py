@@ -13,7 +13,7 @@ files     what stands in the folder before the run, by name: a text; a list of t
 stdin     a text, "closed", or the fifo's object; nothing if it is not given
 stdout    what standard output gets, as a file's text; or an object: "closed", "full" (the full device), or "reader"
           with the number of bytes after which the reader closes its end
-stderr    what standard error gets; nothing if it is not given
+stderr    what standard error gets, nothing if it is not given; or an object: "closed", or "full" (the full device)
 status    the exit status
 open      how many descriptors may be open at once
 left      files that are new after the run, by name; each file that was there is there still, with its bytes
@@ -139,6 +139,10 @@ def prepare(case):
             os.close(0)
         if isinstance(case["stdout"], dict) and "closed" in case["stdout"]:
             os.close(1)
+        if isinstance(case.get("stderr"), dict):
+            os.close(2)
+            if "full" in case["stderr"]:
+                os.dup2(os.open("/dev/full", os.O_WRONLY), 2)
     return prepared
 
 
@@ -191,8 +195,9 @@ def compare(program, case, folder):
     wanted = content(stdout["text"]) if "text" in stdout else b""
     if "reader" not in stdout and out != wanted:
         problems.append(f"standard output has {short(out)}, and not {short(wanted)}")
-    if errors != content(case.get("stderr", "")):
-        problems.append(f"standard error has {short(errors)}, and not {short(content(case.get('stderr', '')))}")
+    told = b"" if isinstance(case.get("stderr"), dict) else content(case.get("stderr", ""))
+    if errors != told:
+        problems.append(f"standard error has {short(errors)}, and not {short(told)}")
     for name, told in case["files"].items():
         if not kept(folder / name, told):
             problems.append(f"{name} is not as it was")

@@ -13,6 +13,9 @@ use std::alloc::Global;
 /// The name of standard output among the files.
 const STDOUT: &str = "<stdout>";
 
+/// The name of standard error.
+const STDERR: &str = "<stderr>";
+
 /// As many reads and writes of a name are cut as the cases need.
 const CUT_CALLS: usize = 64;
 
@@ -164,7 +167,7 @@ fn write_event(text: &mut String, event: &Event) -> Result<(), CaseError> {
     Ok(())
 }
 
-/// Adds what became of the world: how many calls failed, which were made, and what standard output got.
+/// Adds what became of the world: how many calls failed, which were made, and what standard output and error got.
 fn write_world(lines: &mut String, world: &MemoryWorld) -> Result<(), CaseError> {
     write!(lines, "= failed {}\n= calls", world.faults())?;
     for event in world.log().as_slice() {
@@ -172,12 +175,18 @@ fn write_world(lines: &mut String, world: &MemoryWorld) -> Result<(), CaseError>
     }
     lines.push_str("\n= out ")?;
     percent_encode(world.file(STDOUT).unwrap_or(b""), ESCAPED).append_to(lines)?;
+    lines.push_str("\n= errors ")?;
+    percent_encode(world.file(STDERR).unwrap_or(b""), ESCAPED).append_to(lines)?;
     lines.push_str("\n")?;
     Ok(())
 }
 
 fn write_outcome(lines: &mut String, outcome: Outcome) -> Result<(), CaseError> {
-    Ok(writeln!(lines, "= {:?}, status {}", outcome.cause, outcome.status)?)
+    Ok(writeln!(
+        lines,
+        "= {:?}, status {}, said {:?}",
+        outcome.cause, outcome.status, outcome.said
+    )?)
 }
 
 /// Runs the command with these words, and adds the answer.
@@ -195,7 +204,7 @@ fn write_run(
     written
 }
 
-/// Adds the cause and the status of the command, and what became of the world.
+/// Adds the cause and the status of the command, how much of its line was told, and what became of the world.
 pub fn answer(alloc: Global, case: &str, lines: &mut String) -> Result<(), CaseError> {
     let (head, _) = case.split_once("\nfile ").unwrap_or((case, ""));
     let cut = cut_of(head)?;

@@ -2,6 +2,7 @@ mod CommandSteps
 mod ByteFronts
 mod JudgeSteps
 mod PassSteps
+mod ReportSteps
 mod RestSteps
 mod ScriptSteps
 mod SeenSteps

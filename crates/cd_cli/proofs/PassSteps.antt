@@ -16,7 +16,9 @@ use Rattle.cd_world.specs.Events.{gave, given_by, bytes_given, written_by, writt
 use Rattle.cd_world.specs.Files.{Files, left_at, with_output, ReadsFile}
 use Rattle.cd_meaning.specs.RunShapes.{Mark, AtEnd, MayGoOn, Broken}
 use Rattle.cd_cli.specs.Seen.{mark_of}
-use Rattle.cd_cli.specs.Take.{is_failure, IsCalm, KeepsRest, NoneFailed, Passing, IsMove, LogsFront, HasEnough, LogsPass}
+use Rattle.cd_cli.specs.Take.{is_failure, IsCalm, KeepsRest, NoneFailed, Passing, IsMove, HasEnough, LogsPass}
+use Rattle.cd_cli.specs.declared.streams.Stream.TheVariants.{Output}
+use Rattle.cd_cli.specs.Streams.{LogsFront}
 use Rattle.cd_cli.proofs.RestSteps.{keeps_on, keeps_by}
 use Rattle.cd_cli.proofs.ByteFronts.{take-append, take_least, take-given, left_after_read}
 use Rattle.cd_cli.proofs.SeenSteps.{goes_on_unbroken, mark_behind}
@@ -186,7 +188,7 @@ module _ (from : Descriptor) (count left : ℕ) (into : List ℕ) (l l1 l2 : Lis
 
   -- a read that gave bytes, and writes of the front of them
   module _ {T : Type 0} (k n : ℕ) (slice : List ℕ) (answer : Result T WorldError) (l3 : List Event) (some : k ≢ 0) (fits : k ≤ length into) (n_is : n ≡ min left k) (slice_is : slice ≡ take n into)
-      (log : l2 ≡ l1 ++ gave from into (Ok k)) (out : LogsFront slice answer l2 l3) where
+      (log : l2 ≡ l1 ++ gave from into (Ok k)) (out : LogsFront Output slice answer l2 l3) where
     now : List Event
     now = Gave from (take k into) ∷ out.part
 

@@ -143,7 +143,7 @@ pub data AnswersCommand (words : List (List ℕ)) (contents : List ℕ → List 
       → AnswersCommand words contents cause sent
 
 -- What was sent in all, by the answer to a tree, a text, a script, and to the words. No file is changed, nothing is taken of standard input, and
--- standard error gets nothing.
+-- standard error gets nothing yet.
 pub record Sent (Answer : List ℕ → Type 0) (f f' : Files) : Type 0 where
   pub sent : List ℕ
   pub output : f'.output ≡ f.output ++ sent

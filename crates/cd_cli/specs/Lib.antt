@@ -2,7 +2,9 @@ pub mod Cause
 pub mod Command
 pub mod Form
 pub mod Judge
+pub mod Report
 pub mod Script
 pub mod Seen
+pub mod Streams
 pub mod Take
 pub mod Arguments

@@ -5,8 +5,8 @@ use Rattle.cd_world.specs.declared.event.Event.{Event}
 use Rattle.cd_world.specs.declared.event.Event.TheVariants.{OpenedRead, OpenFailed, Gave, GaveEnd, ReadFailed, Wrote, WriteFailed, CloseFailed as CloseFailing}
 use Rattle.cd_world.specs.declared.world.WorldError.{WorldError}
 use Rattle.cd_world.specs.declared.world.WorldError.TheVariants.{Failed}
-use Rattle.cd_world.specs.Events.{written_to, bytes_given, IsWriteOn, IsCloseOf}
-use Rattle.cd_world.specs.Files.{Files, with_output, left_at}
+use Rattle.cd_world.specs.Events.{written_to, bytes_given, IsCloseOf}
+use Rattle.cd_world.specs.Files.{Files, left_at}
 use Rattle.cd_meaning.specs.RunShapes.{AtEnd}
 use Rattle.cd_cli.specs.Seen.{mark_of}
 
@@ -29,24 +29,6 @@ NoneFailed events = All IsCalm events
 -- forgotten when the descriptor is closed.
 abbrev pub KeepsRest : Files → Files → Type 0
 KeepsRest f f' = f' ≡ record f { output = f'.output; given = f'.given }
-
--- A front of these bytes was written to standard output, and all of them where that went well.
-pub record WritesFront {T E : Type 0} (bytes : List ℕ) (result : Result T E) (f f' : Files) : Type 0 where
-  pub sent : List ℕ
-  pub behind : List ℕ
-  pub front : bytes ≡ sent ++ behind
-  pub whole : OnOk result (behind ≡ [])
-  pub files : f' ≡ with_output sent f
-
--- The same by the calls, which were writes to standard output alone. None of them failed, unless that is the answer.
-pub record LogsFront {T : Type 0} (bytes : List ℕ) (result : Result T WorldError) (l l' : List Event) : Type 0 where
-  pub part : List Event
-  pub log : l' ≡ l ++ part
-  pub writes : All (IsWriteOn 1) part
-  pub behind : List ℕ
-  pub front : bytes ≡ written_to 1 part ++ behind
-  pub whole : OnOk result (behind ≡ [])
-  pub calm : result ≢ Err Failed → NoneFailed part
 
 -- Of the first `count` bytes that were left of a file these were written to standard output, and those behind them were not.
 pub record Passing (d : ℕ) (name : List ℕ) (count : ℕ) (behind : List ℕ) (f f' : Files) : Type 0 where

@@ -3,7 +3,7 @@ ghost use Rattle.std.specs.Prelude.{◌≡◌};
 ghost use Rattle.cd_cli.specs.Cause.{cause_of, cause_of_refusal, script_cause, words_cause};
 
 use crate::arguments::WordsRefusal;
-use cd_report::Cause;
+use cd_report::{Cause, Said};
 use cd_script::ScriptRefusal;
 use cd_world::WorldError;
 
@@ -55,4 +55,6 @@ pub struct Outcome {
     /// The status with which the program ends, which the cause determines.
     pub status: u8,
     pub cause: Cause,
+    /// How much of the cause's line was written to standard error, which changes neither of the others.
+    pub said: Said,
 }

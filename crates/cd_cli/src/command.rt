@@ -3,16 +3,20 @@ ghost use Rattle.std.specs.Prelude.{◌≡◌, List, IsTrue, map};
 ghost use Rattle.std.specs.String.{string_bytes};
 ghost use Rattle.cd_grammar.specs.Canonical.{IsTreeWithin};
 ghost use Rattle.cd_report.specs.Cause.{status_of};
+ghost use Rattle.cd_report.specs.CauseText.{cause_text};
 ghost use Rattle.cd_cli.specs.Cause.{HasOrigin};
 ghost use Rattle.cd_cli.specs.Arguments.{script_of};
 ghost use Rattle.cd_cli.specs.Command.{Does, RunsTree, ShowsTree, SendsFor, SendsTree, SendsText, Judges, Logs, ReadsAndJudges, Calls, Called, Sends, SendsScript, AnswersCommand, Sent, Completes};
+ghost use Rattle.cd_cli.specs.Report.{HasCount, SentAndTold, CalledAndTold, CompletesBefore};
 
 use crate::arguments::{Command, read_words};
 use crate::cause::{Outcome, run_cause, script_cause};
 use crate::form::{Form, form_of};
 use crate::judge::judge;
+use crate::report::report;
 use crate::script::read_script;
-use crate::take::{run_take, write_all};
+use crate::streams::{Stream, write_all};
+use crate::take::run_take;
 use cd_elem::Script;
 use cd_report::Cause;
 use cd_script::print;
@@ -23,23 +27,39 @@ use std::alloc::Global;
 ///
 /// `run SCRIPT` and `show SCRIPT` read the script file to its end, or to 65,537 bytes, close it and judge it. `run` then
 /// runs it where it is of the form `run sourceFile "NAME" | takeE N | stdout;`, and `show` writes its canonical text to
-/// standard output. Everything that was opened in the call is closed again, whatever comes.
+/// standard output. Everything that was opened in the call is closed again, whatever comes. The line of the cause is
+/// written to standard error after that, as the last thing of all.
 pub fn conduit_main<W: World>(alloc: Global, words: &[String], world: &mut W) -> Outcome
     ensures status { result.status ≡ status_of result.cause }
-    ensures origin { HasOrigin (W.faults world.old) (W.faults world.new) result.cause }
+    ensures origin { HasCount (W.faults world.old) (W.faults world.new) result.cause result.said }
     ensures live { W.live world.new ≡ W.live world.old }
-    ensures files { IsTrue W.tells_files → Sent (AnswersCommand (map string_bytes words.now) (W.files world.old).contents result.cause) (W.files world.old) (W.files world.new) }
+    ensures files { IsTrue W.tells_files → SentAndTold (AnswersCommand (map string_bytes words.now) (W.files world.old).contents result.cause) (cause_text result.cause) result.said
+        (W.files world.old) (W.files world.new) }
     ensures complete { IsTrue W.tells_files
-        → Completes (map string_bytes words.now) (W.files world.old).contents (W.faults world.old) (W.faults world.new) result.cause }
-    ensures log { IsTrue W.tells_log → Called (Calls (map string_bytes words.now) result.cause) (W.log world.old) (W.log world.new) }
+        → CompletesBefore (map string_bytes words.now) (W.files world.old).contents (W.faults world.old) (W.faults world.new) result.cause result.said }
+    ensures log { IsTrue W.tells_log → CalledAndTold (Calls (map string_bytes words.now) result.cause) (cause_text result.cause) result.said (W.log world.old) (W.log world.new) }
 {
-    let cause = match read_words(alloc, words) {
-        Ok(command) => run_command(alloc, world, &command),
-        Err(refusal) => Cause::from(refusal),
-    };
+    let cause = answer_words(alloc, words, world);
+    let said = report(alloc, world, cause);
     Outcome {
         status: cause.status(),
         cause,
+        said,
+    }
+}
+
+/// Does what the words say, up to the line of the cause.
+fn answer_words<W: World>(alloc: Global, words: &[String], world: &mut W) -> Cause
+    ensures origin { HasOrigin (W.faults world.old) (W.faults world.new) result }
+    ensures live { W.live world.new ≡ W.live world.old }
+    ensures files { IsTrue W.tells_files → Sent (AnswersCommand (map string_bytes words.now) (W.files world.old).contents result) (W.files world.old) (W.files world.new) }
+    ensures complete { IsTrue W.tells_files
+        → Completes (map string_bytes words.now) (W.files world.old).contents (W.faults world.old) (W.faults world.new) result }
+    ensures log { IsTrue W.tells_log → Called (Calls (map string_bytes words.now) result) (W.log world.old) (W.log world.new) }
+{
+    match read_words(alloc, words) {
+        Ok(command) => run_command(alloc, world, &command),
+        Err(refusal) => Cause::from(refusal),
     }
 }
 
@@ -112,7 +132,7 @@ fn show_tree<W: World>(alloc: Global, world: &mut W, script: &Script) -> Cause
     let Ok(text) = print(alloc, script) else {
         return Cause::NoMemory;
     };
-    match write_all(world, text.as_bytes()) {
+    match write_all(world, Stream::Output, text.as_bytes()) {
         Ok(()) => Cause::Success,
         Err(error) => run_cause(error),
     }

@@ -6,7 +6,9 @@ mod cause;
 mod command;
 mod form;
 mod judge;
+mod report;
 mod script;
+mod streams;
 mod take;
 
 pub use arguments::{Command, WordsRefusal, read_words};

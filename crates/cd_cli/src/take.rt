@@ -4,29 +4,15 @@ ghost use Rattle.cd_world.specs.declared.event.Use.TheVariants.{Reading};
 ghost use Rattle.cd_world.specs.Causes.{HasCause};
 ghost use Rattle.cd_world.specs.Live.{IsLive, open_as};
 ghost use Rattle.cd_cli.specs.Cause.{answer_of};
-ghost use Rattle.cd_cli.specs.Take.{WritesFront, LogsFront, Passes, LogsPass, Takes, LogsTake};
+ghost use Rattle.cd_cli.specs.Take.{Passes, LogsPass, Takes, LogsTake};
 
+use crate::streams::{Stream, write_all};
 use cd_elem::NoMemory;
 use cd_world::{CloseFailed, Descriptor, World, WorldError};
 use std::alloc::Global;
 
 /// How many bytes one read asks for.
 const READ_SIZE: usize = 32_768;
-
-/// Writes all of `bytes` to standard output.
-pub fn write_all<W: World>(world: &mut W, bytes: &[u8]) -> Result<(), WorldError>
-    ensures cause { HasCause (W.faults world.old) (W.faults world.new) result }
-    ensures live { W.live world.new ≡ W.live world.old }
-    ensures files { IsTrue W.tells_files → WritesFront bytes.now result (W.files world.old) (W.files world.new) }
-    ensures log { IsTrue W.tells_log → LogsFront bytes.now result (W.log world.old) (W.log world.new) }
-{
-    let mut done = 0;
-    while done < bytes.len() {
-        let count = world.write(Descriptor::STDOUT, &bytes[done..])?;
-        done += count;
-    }
-    Ok(())
-}
 
 /// Passes the first `count` bytes that are left at `from` on to standard output, or as many as there are. It reads into
 /// `buffer`, which is not empty.
@@ -51,7 +37,7 @@ fn pass_front<W: World>(
             break;
         }
         let front = left.min(given as u64);
-        write_all(world, &buffer[..front as usize])?;
+        write_all(world, Stream::Output, &buffer[..front as usize])?;
         left -= front;
     }
     Ok(())

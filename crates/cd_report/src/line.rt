@@ -1,6 +1,6 @@
 // The line of a cause.
-ghost use Rattle.std.specs.Prelude.{◌≡◌, IfOk, string_bytes};
-ghost use Rattle.cd_report.specs.declared.cause.Cause.TheVariants.{NoMemory as MemoryWanting};
+ghost use Rattle.std.specs.Prelude.{◌≡◌, ◌≢◌, IfOk, OnErr, string_bytes};
+ghost use Rattle.cd_report.specs.declared.cause.Cause.TheVariants.{NoMemory as MemoryWanting, Success as Silent};
 ghost use Rattle.cd_report.specs.CauseText as spec;
 
 use crate::cause::Cause;
@@ -10,9 +10,11 @@ use std::alloc::Global;
 /// The commands and their words, as they are now.
 const USAGE: &str = "usage: conduit (run SCRIPT | show SCRIPT)";
 
-/// The line that tells a cause on standard error, with its newline. Success has none: its text is empty.
+/// The line that tells a cause on standard error, with its newline. Success has none: its text is empty, and takes no
+/// memory.
 pub fn cause_text(alloc: Global, cause: Cause) -> Result<String, NoMemory>
-    ensures { IfOk result (λ text. string_bytes text ≡ spec.cause_text cause) }
+    ensures text { IfOk result (λ text. string_bytes text ≡ spec.cause_text cause) }
+    ensures no_memory { OnErr result (cause ≢ Silent) }
 {
     match cause {
         Cause::Success => Ok(String::new(alloc)),
