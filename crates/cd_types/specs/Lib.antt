@@ -1,0 +1,13 @@
+pub mod Chains
+pub mod Conditions
+pub mod Flows
+pub mod Forms
+pub mod Limits
+pub mod Moments
+pub mod Parts
+pub mod Rows
+pub mod Sequences
+pub mod Statements
+pub mod Trees
+pub mod Typing
+pub mod WordTypes

@@ -1,0 +1,3 @@
+-- Worked rows, which hold by computation alone.
+pub mod Scripts
+pub mod Trees

@@ -1,0 +1,8 @@
+//! Which scripts have a type, with the type of each part, and which refusal is the first in the others.
+//!
+//! Definitions and laws alone; no code runs here.
+#![tactic(auto)]
+
+mod refusal;
+
+pub use refusal::{Refusal, RefusalKind};
