@@ -6,7 +6,9 @@ pub mod Limits
 pub mod Moments
 pub mod Parts
 pub mod Rows
+pub mod Scoped
 pub mod Sequences
+pub mod Sites
 pub mod Statements
 pub mod Trees
 pub mod Typing

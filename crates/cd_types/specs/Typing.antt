@@ -40,8 +40,3 @@ judged_from r (m ∷ more) = refused_at m (lowest (fails_at r m)) (judged_from (
 
 abbrev pub judged : List Stmt → Verdict
 judged script = judged_from nothing_reached (script_moments script)
-
--- Ok where no condition fails
-abbrev pub refusal_in : Verdict → Option Refusal
-refusal_in (Refused refusal) = Some refusal
-refusal_in (Passed r) = None

@@ -3,6 +3,8 @@
 //! Definitions and laws alone; no code runs here.
 #![tactic(auto)]
 
+mod laws;
 mod refusal;
 
+pub use laws::{judging, typed_scripts};
 pub use refusal::{Refusal, RefusalKind};

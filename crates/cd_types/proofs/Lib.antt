@@ -1,0 +1,5 @@
+pub mod Apart
+pub mod LawfulParts
+pub mod ScopedNames
+pub mod StandingNames
+pub mod Verdicts
