@@ -31,6 +31,7 @@ test:
 cases:
 	tools/cases_data.py
 	tools/cases.py crates/cd_meaning/specs/Cases
+	tools/type_cases.py crates/cd_types/specs/Cases
 
 gate-times:
 	tools/gate_times.py

@@ -47,9 +47,10 @@ done
 if command -v python3 > /dev/null; then
     check tools/cases_data.py --check
     check tools/cases.py --check crates/cd_meaning/specs/Cases
+    check tools/type_cases.py --check crates/cd_types/specs/Cases
 else
     echo 'skipped: no python3 to see that the files written from the cases are up to date'
-    skipped=2
+    skipped=3
 fi
 
 # The program that the gate built.

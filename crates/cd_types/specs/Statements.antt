@@ -65,6 +65,25 @@ seal_flow [] name = None
 seal_flow (Let other a ∷ more) name = if bytes_eq other name then (a.type None).to else seal_flow more name
 seal_flow (s ∷ more) name = seal_flow more name
 
+-- the names of the seals and of the keys of a script, in the order of their definitions
+abbrev pub seal_names : List Stmt → List (List ℕ)
+seal_names [] = []
+seal_names (Stmt.Run p ∷ more) = seal_names more
+seal_names (Stmt.Seal name p ∷ more) = name ∷ seal_names more
+seal_names (Stmt.Feed name p ∷ more) = seal_names more
+seal_names (Stmt.CloseSeal name p ∷ more) = seal_names more
+seal_names (Stmt.Hold name file ∷ more) = seal_names more
+seal_names (Stmt.Release name ∷ more) = seal_names more
+
+abbrev pub key_names : List Stmt → List (List ℕ)
+key_names [] = []
+key_names (Stmt.Run p ∷ more) = key_names more
+key_names (Stmt.Seal name p ∷ more) = key_names more
+key_names (Stmt.Feed name p ∷ more) = key_names more
+key_names (Stmt.CloseSeal name p ∷ more) = key_names more
+key_names (Stmt.Hold name file ∷ more) = name ∷ key_names more
+key_names (Stmt.Release name ∷ more) = key_names more
+
 -- ---- the moments of statements
 
 abbrev pub statement_fails : List Statement → Statement → Fails

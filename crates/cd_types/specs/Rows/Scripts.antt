@@ -1,22 +1,10 @@
 -- Scripts and what is refused first in them, or what they reach.
-use Rattle.std.specs.Prelude.{◌≡◌, ℕ, Bool, List, [], ◌∷◌, codes, replicate}
-use Rattle.cd_meaning.specs.Places.{Place, Reads, Writes, WritesOutput, Marks}
+use Rattle.std.specs.Prelude.{◌≡◌, List, [], ◌∷◌, codes, replicate}
+use Rattle.cd_meaning.specs.Places.{Reads, Writes, WritesOutput, Marks}
 use Rattle.cd_meaning.specs.Rows.Trees.{Sentence, Tree}
 use Rattle.cd_meaning.specs.Rows.Short.{close_statement, collect_word, exactly_e_form, feed_statement, flat_word, head_e, hold_statement, length_e, let_statement, map_e, mark_form, pass_e, piped, piped_keep, range_word, release_statement, run_statement, sequence_form, sink_file_word, sink_null, source_file_word, stdin_word, stdout_word, take_e, take_word, utf8_word, utf8_lenient_word, xor, zip_sink_form, take_while_e, digit, drop_e}
-use Rattle.cd_types.specs.declared.refusal.RefusalKind.{RefusalKind}
 use Rattle.cd_types.specs.declared.refusal.RefusalKind.TheVariants.{SeesChunks, DropsRest, NameTwice, Seal, BoundTooLarge, TooMany, Key}
-use Rattle.cd_types.specs.Flows.{Flow, PartType, ResultKind}
-use Rattle.cd_types.specs.Typing.{Verdict, Refused, Passed}
-use Rattle.cd_types.specs.Rows.Trees.{verdict, verdict_is}
-
-abbrev pub refused : RefusalKind → ℕ → ℕ → Verdict
-refused kind statement part = Refused (record { kind = kind; statement = statement; part = part })
-
-abbrev pub passed : List Place → ℕ → Verdict
-passed sites total = Passed (record { sites = sites; total = total })
-
-abbrev pub typed : Flow → Flow → ResultKind → Bool → Bool → ℕ → PartType
-typed from to result exact idle bound = record { from = from; to = to; result = result; exact = exact; idle = idle; bound = bound }
+use Rattle.cd_types.specs.Rows.Trees.{verdict, verdict_is, refused, passed}
 
 abbrev of_file : List Tree → List Sentence
 of_file = λ ts. run_statement (piped (source_file_word (codes "a") ∷ ts)) ∷ []

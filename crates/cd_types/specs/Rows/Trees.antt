@@ -1,5 +1,5 @@
 -- The parts of trees that rows write, and what is judged of their scripts.
-use Rattle.std.specs.Prelude.{◌≡◌, refl, ℕ, List, [], ◌∷◌, map}
+use Rattle.std.specs.Prelude.{◌≡◌, refl, ℕ, List, [], ◌∷◌, length, map}
 use Rattle.std.proofs.Common.{◌∙◌, ap, sym}
 use Rattle.cd_elem.specs.declared.word.Word.{Word}
 use Rattle.cd_elem.specs.declared.script.Join.{Join}
@@ -13,9 +13,11 @@ use Rattle.cd_types.specs.Sequences.{sequence_part}
 use Rattle.cd_types.specs.Chains.{chain_part}
 use Rattle.cd_types.specs.Forms.{piece_section, element_section, mark_part, tee_part, zip_source_part, zip_sink_part, zip_conduit_part}
 use Rattle.cd_types.specs.Trees.{part, part_step}
+use Rattle.cd_meaning.specs.Places.{Place}
+use Rattle.cd_types.specs.declared.refusal.RefusalKind.{RefusalKind}
 use Rattle.cd_types.specs.Moments.{nothing_reached}
-use Rattle.cd_types.specs.Statements.{Statement, Run, Let, Feed, CloseSeal, Hold, Release, statement_of, moments_behind, script_types, types_behind}
-use Rattle.cd_types.specs.Typing.{Verdict, judged, judged_from}
+use Rattle.cd_types.specs.Statements.{Statement, Run, Let, Feed, CloseSeal, Hold, Release, statement_of, moments_behind, script_types, types_behind, seal_names, key_names}
+use Rattle.cd_types.specs.Typing.{Verdict, Refused, Passed, judged, judged_from}
 
 -- ---- the fold at each node
 
@@ -143,3 +145,26 @@ part_types ss = script_types (map stmt_of ss)
 pub part_types_are : (ss : List Sentence) → part_types ss ≡ types_behind [] (map sentence_statement ss)
 unfolding part_types
 part_types_are ss = ap (types_behind []) (are_statements ss)
+
+-- ---- answers
+
+abbrev pub refused : RefusalKind → ℕ → ℕ → Verdict
+refused kind statement part = Refused (record { kind = kind; statement = statement; part = part })
+
+abbrev pub passed : List Place → ℕ → Verdict
+passed sites total = Passed (record { sites = sites; total = total })
+
+-- how many seals and how many keys
+pub record Counted : Type 0 where
+  pub seals : ℕ
+  pub keys : ℕ
+
+abbrev pub counted : ℕ → ℕ → Counted
+counted seals keys = record { seals = seals; keys = keys }
+
+unfoldable pub names : List Sentence → Counted
+names ss = counted (length (seal_names (map stmt_of ss))) (length (key_names (map stmt_of ss)))
+
+pub names_are : (ss : List Sentence) → names ss ≡ counted (length (seal_names (map stmt_of ss))) (length (key_names (map stmt_of ss)))
+unfolding names
+names_are ss = refl
