@@ -22,7 +22,7 @@ use Rattle.cd_elem.specs.Limits.{piece_limit}
 use Rattle.cd_types.specs.declared.refusal.RefusalKind.TheVariants.{KindMismatch, SeesChunks, BoundTooLarge, OpenEnd}
 
 -- moments pass where those in front and those behind do
-split : (r : Reached) (ms ns : List Moment) → AllPass r (ms ++ ns) → AllPass r ms × AllPass (fold reach r ms) ns
+pub split : (r : Reached) (ms ns : List Moment) → AllPass r (ms ++ ns) → AllPass r ms × AllPass (fold reach r ms) ns
 split r [] ns h = (tt, h)
 split r (m ∷ ms) ns h =
     let s = split (reach r m) ms ns h.1 in

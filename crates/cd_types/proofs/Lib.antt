@@ -1,5 +1,10 @@
 pub mod Apart
+pub mod FormFacts
 pub mod LawfulParts
+pub mod PartFacts
 pub mod ScopedNames
+pub mod ScriptFacts
 pub mod StandingNames
+pub mod Sums
 pub mod Verdicts
+pub mod WordFacts

@@ -25,6 +25,11 @@ last_type [] = no_type
 last_type (t ∷ []) = t
 last_type (t ∷ u ∷ more) = last_type (u ∷ more)
 
+-- what the last one gives; no member at all, which no text has, passes on what it takes
+abbrev pub last_output : Flow → List PartType → Flow
+last_output f [] = f
+last_output f (t ∷ more) = last_output t.to more
+
 -- the result of a member and of the rest, which has this result
 abbrev pub joined_result : Join → PartType → ResultKind → ResultKind
 joined_result Plain t s = s
@@ -64,7 +69,7 @@ chain_bound _ ts = 0
 abbrev pub chain_type_of : Join → Flow → List PartType → PartType
 chain_type_of j f ts = record {
   from = f;
-  to = (last_type ts).to;
+  to = last_output f ts;
   result = chain_result j ts;
   exact = (first_type ts).idle || is_pieces f || keeps_exact j (first_type ts) (last_type ts);
   idle = (first_type ts).idle;

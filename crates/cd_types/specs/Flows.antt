@@ -1,5 +1,5 @@
 -- What flows between parts, what they result in, and the type of a part.
-use Rattle.std.specs.Prelude.{ℕ, Bool, true, false, ◌&&◌, nat_lt, if◌then◌else◌, Option, Some, None}
+use Rattle.std.specs.Prelude.{ℕ, ◌+◌, Bool, true, false, ◌&&◌, nat_lt, if◌then◌else◌, List, [], ◌∷◌, Option, Some, None}
 pub use Rattle.cd_elem.specs.declared.kind.Kind.{Kind}
 pub use Rattle.cd_elem.specs.declared.kind.Sort.{Sort}
 
@@ -28,6 +28,11 @@ pub record PartType : Type 0 where
   pub exact : Bool
   pub idle : Bool
   pub bound : ℕ
+
+-- the sum of the bounds of these parts
+abbrev pub bound_of : List PartType → ℕ
+bound_of [] = 0
+bound_of (t ∷ more) = t.bound + bound_of more
 
 -- ---- flows
 
@@ -62,6 +67,11 @@ kind_sort Kind.Bytes = Sort.Bytes
 kind_sort Kind.Chars = Sort.Chars
 kind_sort (Kind.Blocks m) = Sort.Block
 kind_sort (Kind.Texts m) = Sort.Text
+
+-- what flows by its sort, as meanings speak of it
+abbrev pub sort_in : Flow → Option Sort
+sort_in None = None
+sort_in (Some k) = Some (kind_sort k)
 
 -- the greatest length of a piece
 abbrev pub kind_bound : Kind → ℕ

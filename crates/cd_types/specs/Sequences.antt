@@ -19,13 +19,18 @@ abbrev pub joined_from : Flow → Flow → List Part → Flow
 joined_from g f [] = g
 joined_from g f (a ∷ more) = joined_from (join g (a.type f).to) f more
 
+-- what they give together; no part at all, which no text has, passes on what it takes
+abbrev pub joined_outputs : Flow → List Part → Flow
+joined_outputs f [] = f
+joined_outputs f (a ∷ more) = joined_from (a.type f).to f more
+
 -- the last one's result, or r where there is none
 abbrev pub last_result : ResultKind → Flow → List Part → ResultKind
 last_result r f [] = r
 last_result r f (a ∷ more) = last_result (a.type f).result f more
 
 abbrev pub sequence_type : List Part → Flow → PartType
-sequence_type parts f = record { from = f; to = joined_from None f parts; result = last_result Unit f parts; exact = all_exact f parts; idle = all_idle f parts; bound = 0 }
+sequence_type parts f = record { from = f; to = joined_outputs f parts; result = last_result Unit f parts; exact = all_exact f parts; idle = all_idle f parts; bound = 0 }
 
 -- behind a part, where those before it give g
 abbrev pub sequence_fails : Flow → Flow → PartType → Bool → Fails

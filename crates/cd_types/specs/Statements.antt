@@ -4,7 +4,7 @@ use Rattle.std.specs.List.{list_any}
 use Rattle.cd_elem.specs.declared.script.Stmt.{Stmt}
 use Rattle.cd_meaning.specs.Places.{Place, Marks}
 use Rattle.cd_types.specs.declared.refusal.RefusalKind.TheVariants.{DropsRest, Seal, ResultLost, TooMany, OpenEnd, Key}
-use Rattle.cd_types.specs.Flows.{Flow, PartType, is_nothing, is_cut, is_unit}
+use Rattle.cd_types.specs.Flows.{Flow, PartType, bound_of, is_nothing, is_cut, is_unit}
 use Rattle.cd_types.specs.Limits.{statement_limit}
 use Rattle.cd_types.specs.Conditions.{Fails, none_fails, fails_where, or_fails}
 use Rattle.cd_types.specs.Moments.{Moment, ask, begin_part}
@@ -134,6 +134,11 @@ types_behind before (s ∷ more) = statement_types before s ∷ types_behind (be
 
 abbrev pub script_types : List Stmt → List (List PartType)
 script_types script = types_behind [] (map statement_of script)
+
+-- the sum of the bounds of all parts of all statements
+abbrev pub bounds_of : List (List PartType) → ℕ
+bounds_of [] = 0
+bounds_of (ts ∷ more) = bound_of ts + bounds_of more
 
 -- of the statement with this number
 abbrev pub statement_moments : ℕ → List Statement → Statement → List Moment
