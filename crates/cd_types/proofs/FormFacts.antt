@@ -52,6 +52,7 @@ exactly_facts k a m o = record {
   places = one_places (section_type a) (input_fails SeesChunks is_cut) None none_asked a m o;
   bounds = one_bounds (section_type a) (input_fails SeesChunks is_cut) None none_asked a m o;
   size = one_size (section_type a) (input_fails SeesChunks is_cut) None none_asked a m o;
+  first = λ f. refl;
   gives = one_gives (section_type a) (input_fails SeesChunks is_cut) None none_asked a m o;
 }
 
@@ -60,6 +61,7 @@ exactly_e_facts k a m o = record {
   places = one_places (section_type a) (input_fails NeedsElements is_pieces) None none_asked a m o;
   bounds = one_bounds (section_type a) (input_fails NeedsElements is_pieces) None none_asked a m o;
   size = one_size (section_type a) (input_fails NeedsElements is_pieces) None none_asked a m o;
+  first = λ f. refl;
   gives = one_gives (section_type a) (input_fails NeedsElements is_pieces) None none_asked a m o;
 }
 
@@ -68,6 +70,7 @@ line_e_facts a m o = record {
   places = one_places (section_type a) (input_fails NeedsElements is_pieces) None none_asked a m o;
   bounds = one_bounds (section_type a) (input_fails NeedsElements is_pieces) None none_asked a m o;
   size = one_size (section_type a) (input_fails NeedsElements is_pieces) None none_asked a m o;
+  first = λ f. refl;
   gives = one_gives (section_type a) (input_fails NeedsElements is_pieces) None none_asked a m o;
 }
 
@@ -76,6 +79,7 @@ mark_facts name a m o = record {
   places = one_places (mark_type a) (λ f. none_fails) (Some (Marks name)) none_asked a m o;
   bounds = one_bounds (mark_type a) (λ f. none_fails) (Some (Marks name)) none_asked a m o;
   size = one_size (mark_type a) (λ f. none_fails) (Some (Marks name)) none_asked a m o;
+  first = λ f. refl;
   gives = one_gives (mark_type a) (λ f. none_fails) (Some (Marks name)) none_asked a m o;
 }
 
@@ -84,6 +88,7 @@ tee_facts a m o = record {
   places = one_places tee_type (input_fails SeesChunks is_cut) None tee_fails a m o;
   bounds = one_bounds tee_type (input_fails SeesChunks is_cut) None tee_fails a m o;
   size = one_size tee_type (input_fails SeesChunks is_cut) None tee_fails a m o;
+  first = λ f. refl;
   gives = λ r s n f h. refl;
 }
 
@@ -172,6 +177,7 @@ module _ (a b : Part) (m k : Meaning) (o : Facts a m) (u : Facts b k) where
         (λ f. fails_where BoundTooLarge (nat_lt piece_limit (piece_bound (zipped a b literal)))) a b m k o u;
     size = two_size (zip_source_type a b literal) (λ f. None) (λ f. none_fails) zip_source_fails zip_source_second_fails
         (λ f. fails_where BoundTooLarge (nat_lt piece_limit (piece_bound (zipped a b literal)))) a b m k o u;
+    first = λ f. refl;
     gives = λ r s n f h.
         let p = two_passed (zip_source_type a b literal) (λ f. None) (λ f. none_fails) zip_source_fails zip_source_second_fails
         (λ f. fails_where BoundTooLarge (nat_lt piece_limit (piece_bound (zipped a b literal)))) a b m k o u r s n f h
@@ -188,6 +194,7 @@ module _ (a b : Part) (m k : Meaning) (o : Facts a m) (u : Facts b k) where
         (λ f. fails_where SeesChunks (is_cut f && (a.shows_cuts || b.shows_cuts || (a.sites && b.sites)))) a b m k o u;
     size = two_size (zip_sink_type a b) (λ f. f) (λ f. fails_where OpenEnd (is_nothing f)) zip_sink_fails (λ t u. zip_sink_fails u)
         (λ f. fails_where SeesChunks (is_cut f && (a.shows_cuts || b.shows_cuts || (a.sites && b.sites)))) a b m k o u;
+    first = λ f. refl;
     gives = λ r s n f h.
         let p = two_passed (zip_sink_type a b) (λ f. f) (λ f. fails_where OpenEnd (is_nothing f)) zip_sink_fails (λ t u. zip_sink_fails u)
         (λ f. fails_where SeesChunks (is_cut f && (a.shows_cuts || b.shows_cuts || (a.sites && b.sites)))) a b m k o u r s n f h
@@ -201,6 +208,7 @@ module _ (a b : Part) (m k : Meaning) (o : Facts a m) (u : Facts b k) where
     places = two_places (zip_conduit_type a b) (λ f. f) (input_fails SeesChunks is_cut) none_asked (λ t u. fails_where KindMismatch (not (agree t.to u.to))) (λ f. none_fails) a b m k o u;
     bounds = two_bounds (zip_conduit_type a b) (λ f. f) (input_fails SeesChunks is_cut) none_asked (λ t u. fails_where KindMismatch (not (agree t.to u.to))) (λ f. none_fails) a b m k o u;
     size = two_size (zip_conduit_type a b) (λ f. f) (input_fails SeesChunks is_cut) none_asked (λ t u. fails_where KindMismatch (not (agree t.to u.to))) (λ f. none_fails) a b m k o u;
+    first = λ f. refl;
     gives = λ r s n f h.
         let p = two_passed (zip_conduit_type a b) (λ f. f) (input_fails SeesChunks is_cut) none_asked (λ t u. fails_where KindMismatch (not (agree t.to u.to))) (λ f. none_fails) a b m k o u
         r s n f h

@@ -18,7 +18,7 @@ use Rattle.cd_meaning.specs.Sorts.{join as join_sorts}
 use Rattle.cd_meaning.specs.Stream as stream
 use Rattle.cd_meaning.specs.WordMeanings.{word_meaning}
 use Rattle.cd_types.specs.declared.refusal.RefusalKind.TheVariants.{KindMismatch, SeesChunks, BoundTooLarge, OpenEnd}
-use Rattle.cd_types.specs.Chains.{member_types, chain_type, chain_types, chain_moments, chain_part, last_output, member_fails}
+use Rattle.cd_types.specs.Chains.{first_type, member_types, chain_type, chain_types, chain_moments, chain_part, last_output, member_fails}
 use Rattle.cd_types.specs.Conditions.{Fails, lowest, none_fails, fails_where}
 use Rattle.cd_types.specs.Flows.{Flow, PartType, bound_of, sort_in, is_nothing, is_cut, agree, join, with_bound, piece_bound}
 use Rattle.cd_types.specs.Forms.{form_of_one, form_of_two, input_fails, none_asked, zip_source_fails, zip_source_second_fails, zip_sink_fails, zipped, zip_source_type, zip_sink_type, zip_conduit_type, zip_source_part, zip_sink_part, zip_conduit_part}
@@ -35,6 +35,7 @@ pub record Facts (a : Part) (m : Meaning) : Type 0 where
   pub places : (s n : ℕ) (f : Flow) → sites_in (a.moments s n f) ≡ m.places
   pub bounds : (s n : ℕ) (f : Flow) → adds_in (a.moments s n f) ≡ bound_of (a.types f)
   pub size : (f : Flow) → length (a.types f) ≡ a.size
+  pub first : (f : Flow) → first_type (a.types f) ≡ a.type f
   pub gives : (r : Reached) (s n : ℕ) (f : Flow) → AllPass r (a.moments s n f) → m.gives (sort_in f) ≡ sort_in (a.type f).to
 
 abbrev pub AllFacts : List Part → List Meaning → Type 0
@@ -50,6 +51,7 @@ word_facts w = record {
   places = λ s n f. append-nil (site_list (word_site w)) ∙ word_place w;
   bounds = λ s n f. omega arith;
   size = λ f. refl;
+  first = λ f. refl;
   gives = λ r s n f h. word_output w f (own_passes r (begin_part s n (word_fails w f) (word_site w)) h.0);
 }
 
@@ -167,6 +169,7 @@ sequence_facts parts ms o = record {
       ∙ sym (all_places sequence_form (λ a b. refl) ms);
   bounds = λ s n f. ended_adds (sequence_moments s (n + 1) None f parts) s n 0 (bound_of (sequence_types f parts)) (sequence_adds s (n + 1) None f parts ms o);
   size = λ f. let e = sequence_sizes f parts ms o in omega arith;
+  first = λ f. refl;
   gives = λ r s n f h. sequence_gives r s (n + 1) f parts ms o (split r (sequence_moments s (n + 1) None f parts) _ h).0;
 }
 
@@ -238,5 +241,6 @@ chain_facts j parts ms o = record {
   bounds = λ s n f.
       ended_adds (chain_moments s (n + 1) j true f parts) s n (chain_type j parts f).bound (bound_of (chain_types f parts)) (chain_adds s (n + 1) j true f parts ms o);
   size = λ f. let e = chain_sizes f parts ms o in omega arith;
+  first = λ f. refl;
   gives = λ r s n f h. all_along j (sort_in f) ms ∙ chain_given r s (n + 1) j true f parts ms o (split r (chain_moments s (n + 1) j true f parts) _ h).0;
 }

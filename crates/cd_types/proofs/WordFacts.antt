@@ -42,22 +42,22 @@ none_of fails e =
     let l = none_if (fails OpenEnd) _ _ k.1 in
     let m = none_if (fails Key) _ _ l.1 in
     each a.0 b.0 c.0 d.0 f.0 g.0 h.0 i.0 j.0 k.0 l.0 m.0
-    where
-      each : fails KindMismatch ≡ false → fails SeesChunks ≡ false → fails NeedsElements ≡ false → fails DropsRest ≡ false → fails NotInvertible ≡ false
-          → fails NameTwice ≡ false → fails Seal ≡ false → fails BoundTooLarge ≡ false → fails ResultLost ≡ false → fails TooMany ≡ false → fails OpenEnd ≡ false
-          → fails Key ≡ false → (k : RefusalKind) → fails k ≡ false
-      each a b c d f g h i j k l m KindMismatch = a
-      each a b c d f g h i j k l m SeesChunks = b
-      each a b c d f g h i j k l m NeedsElements = c
-      each a b c d f g h i j k l m DropsRest = d
-      each a b c d f g h i j k l m NotInvertible = f
-      each a b c d f g h i j k l m NameTwice = g
-      each a b c d f g h i j k l m Seal = h
-      each a b c d f g h i j k l m BoundTooLarge = i
-      each a b c d f g h i j k l m ResultLost = j
-      each a b c d f g h i j k l m TooMany = k
-      each a b c d f g h i j k l m OpenEnd = l
-      each a b c d f g h i j k l m Key = m
+  where
+    each : fails KindMismatch ≡ false → fails SeesChunks ≡ false → fails NeedsElements ≡ false → fails DropsRest ≡ false → fails NotInvertible ≡ false
+        → fails NameTwice ≡ false → fails Seal ≡ false → fails BoundTooLarge ≡ false → fails ResultLost ≡ false → fails TooMany ≡ false → fails OpenEnd ≡ false
+        → fails Key ≡ false → (k : RefusalKind) → fails k ≡ false
+    each a b c d f g h i j k l m KindMismatch = a
+    each a b c d f g h i j k l m SeesChunks = b
+    each a b c d f g h i j k l m NeedsElements = c
+    each a b c d f g h i j k l m DropsRest = d
+    each a b c d f g h i j k l m NotInvertible = f
+    each a b c d f g h i j k l m NameTwice = g
+    each a b c d f g h i j k l m Seal = h
+    each a b c d f g h i j k l m BoundTooLarge = i
+    each a b c d f g h i j k l m ResultLost = j
+    each a b c d f g h i j k l m TooMany = k
+    each a b c d f g h i j k l m OpenEnd = l
+    each a b c d f g h i j k l m Key = m
 
 pub right_false : (a b : Bool) → (a || b) ≡ false → b ≡ false
 right_false true b e = let f : ⊥ = cc in absurd f

@@ -1,12 +1,18 @@
 // Laws of the typing. Each is the contract of a function that does nothing.
-ghost use Rattle.std.specs.Prelude.{◌≡◌, List, [], IsTrue, ◌⊎◌};
+ghost use Rattle.std.specs.Prelude.{◌≡◌, ℕ, List, [], IsTrue, length, ◌⊎◌};
+ghost use Rattle.cd_elem.specs.declared.script.Pipe.{Pipe};
 ghost use Rattle.cd_elem.specs.declared.script.Stmt.{Stmt};
 ghost use Rattle.cd_meaning.specs.LawfulTrees.{IsLawfulScript};
+ghost use Rattle.cd_meaning.specs.Pipes.{pipe_meaning};
+ghost use Rattle.cd_meaning.specs.Scripts.{script_places};
 ghost use Rattle.cd_types.specs.declared.refusal.Refusal.{Refusal};
-ghost use Rattle.cd_types.specs.Moments.{Reached, reached_by};
+ghost use Rattle.cd_types.specs.Chains.{first_type};
+ghost use Rattle.cd_types.specs.Flows.{Flow, bound_of, sort_in};
+ghost use Rattle.cd_types.specs.Moments.{AllPass, Reached, reached_by};
 ghost use Rattle.cd_types.specs.Scoped.{IsScoped};
 ghost use Rattle.cd_types.specs.Sites.{are_apart};
-ghost use Rattle.cd_types.specs.Statements.{script_moments};
+ghost use Rattle.cd_types.specs.Statements.{bounds_of, script_moments, script_types};
+ghost use Rattle.cd_types.specs.Trees.{part};
 ghost use Rattle.cd_types.specs.Typing.{HasType, IsRefused, Passed, Refused, judged};
 
 /// Judging a script is finding out whether it has a type, and what is refused first in it.
@@ -27,5 +33,20 @@ pub fn judging()
 pub fn typed_scripts()
     ensures lawful { (script : List Stmt) → HasType script → IsLawfulScript script }
     ensures scoped { (script : List Stmt) → HasType script → IsScoped script }
-    ensures apart { (script : List Stmt) → HasType script → IsTrue (are_apart [] (reached_by (script_moments script)).sites) }
+    ensures apart { (script : List Stmt) → HasType script → IsTrue (are_apart [] (script_places script)) }
+{}
+
+/// What the typing says of sites, bounds and outputs, against the meaning.
+///
+/// The sites of a script are its places, in their order, and its total is the sum of the bounds of all its parts; the same of a
+/// tree. A tree has as many types as parts, and the first is its own. Where no condition fails at a tree for what comes to it,
+/// the sort of its output is what its meaning gives. But for the last, no clause asks that a script has a type.
+pub fn agreement()
+    ensures sites { (script : List Stmt) → (reached_by (script_moments script)).sites ≡ script_places script }
+    ensures total { (script : List Stmt) → (reached_by (script_moments script)).total ≡ bounds_of (script_types script) }
+    ensures own_sites { (p : Pipe) (s n : ℕ) (f : Flow) → (reached_by ((part p).moments s n f)).sites ≡ (pipe_meaning p).places }
+    ensures own_bounds { (p : Pipe) (s n : ℕ) (f : Flow) → (reached_by ((part p).moments s n f)).total ≡ bound_of ((part p).types f) }
+    ensures parts { (p : Pipe) (f : Flow) → length ((part p).types f) ≡ (part p).size }
+    ensures own_type { (p : Pipe) (f : Flow) → first_type ((part p).types f) ≡ (part p).type f }
+    ensures gives { (p : Pipe) (r : Reached) (s n : ℕ) (f : Flow) → AllPass r ((part p).moments s n f) → (pipe_meaning p).gives (sort_in f) ≡ sort_in ((part p).type f).to }
 {}
