@@ -1,32 +1,16 @@
 -- The sites of a script that has a type do not clash.
-use Rattle.std.proofs.Common.{◌≡◌, Bool, true, false, ◌&&◌, ◌||◌, not, if◌then◌else◌, IsTrue, List, [], ◌∷◌, ◌++◌, Option, Some, None, refl, ap, sym, ◌∙◌, subst, append_assoc}
+use Rattle.std.proofs.Common.{◌≡◌, Bool, true, false, ◌&&◌, not, IsTrue, List, [], ◌∷◌, ◌++◌, Option, Some, None, refl, ap, sym, ◌∙◌, subst, append_assoc}
 use Rattle.std.specs.List.{fold, list_any}
 use Rattle.std.proofs.lemmas.List.{append-nil}
 use Rattle.cd_elem.specs.declared.script.Stmt.{Stmt}
 use Rattle.cd_meaning.specs.Places.{Place}
-use Rattle.cd_types.specs.declared.refusal.RefusalKind.TheVariants.{KindMismatch, SeesChunks, NeedsElements, DropsRest, NotInvertible, NameTwice}
-use Rattle.cd_types.specs.Conditions.{Fails, lowest}
+use Rattle.cd_types.specs.declared.refusal.RefusalKind.TheVariants.{NameTwice}
+use Rattle.cd_types.specs.Conditions.{lowest}
 use Rattle.cd_types.specs.Moments.{Moment, Reached, reach, nothing_reached, AllPass, fails_at, clash, with_site, reached_by}
 use Rattle.cd_types.specs.Sites.{are_apart}
 use Rattle.cd_types.specs.Statements.{script_moments}
 use Rattle.cd_types.specs.Typing.{HasType}
-
-none_if : {A : Type 0} (b : Bool) (x : A) (o : Option A) → (if b then Some x else o) ≡ None → (b ≡ false) × (o ≡ None)
-none_if true x o e = let f : ⊥ = cc in absurd f
-none_if false x o e = (refl, e)
-
-name_is_free : (fails : Fails) → lowest fails ≡ None → fails NameTwice ≡ false
-name_is_free fails e =
-    let a = none_if (fails KindMismatch) _ _ e in
-    let b = none_if (fails SeesChunks) _ _ a.1 in
-    let c = none_if (fails NeedsElements) _ _ b.1 in
-    let d = none_if (fails DropsRest) _ _ c.1 in
-    let g = none_if (fails NotInvertible) _ _ d.1 in
-    (none_if (fails NameTwice) _ _ g.1).0
-
-left_false : (a b : Bool) → (a || b) ≡ false → a ≡ false
-left_false true b e = e
-left_false false b e = refl
+use Rattle.cd_types.proofs.Passing.{left_false, none_of}
 
 and_true : (b : Bool) → (b && true) ≡ b
 and_true true = refl
@@ -48,7 +32,7 @@ apart_with : (r : Reached) (m : Moment) (o : Option Place) → m.site ≡ o → 
 apart_with r m None at e h = h
 apart_with r m (Some p) at e h =
     let free : fails_at r (record m { site = Some p }) NameTwice ≡ false =
-    subst (λ o. fails_at r (record m { site = o }) NameTwice ≡ false) at (name_is_free (fails_at r m) e)
+    subst (λ o. fails_at r (record m { site = o }) NameTwice ≡ false) at (none_of (fails_at r m) e NameTwice)
     in
     let none : list_any (clash p) r.sites ≡ false = left_false _ _ (left_false _ _ free) in
     one_more [] r.sites p ∙ (rw (h, none) refl)

@@ -1,9 +1,8 @@
 -- What is said of forms and of trees, against their meanings.
-use Rattle.std.proofs.Common.{◌≡◌, ℕ, ◌+◌, Bool, true, false, ◌&&◌, ◌||◌, not, nat_lt, List, [], ◌∷◌, ◌++◌, length, map, Option, Some, None, refl, ap, sym, ◌∙◌, subst, arith}
+use Rattle.std.proofs.Common.{◌≡◌, ℕ, ◌+◌, false, ◌&&◌, ◌||◌, not, nat_lt, List, [], ◌∷◌, ◌++◌, length, map, Option, Some, None, refl, ap, sym, ◌∙◌, subst, arith}
 use Rattle.std.specs.List.{fold}
 use Rattle.std.proofs.lemmas.List.{append-nil, length-append}
 use Rattle.cd_elem.specs.Limits.{piece_limit}
-use Rattle.cd_elem.specs.declared.kind.Kind.{Kind}
 use Rattle.cd_elem.specs.declared.script.Pipe.{Pipe, map-Pipe}
 use Rattle.cd_elem.specs.declared.script.Pipe.TheOpen.{Pipe-F}
 use Rattle.cd_elem.specs.declared.script.Pipe.TheViews.{roll-Pipe}
@@ -16,15 +15,15 @@ use Rattle.cd_meaning.specs.Stream as stream
 use Rattle.cd_types.specs.declared.refusal.RefusalKind.{RefusalKind}
 use Rattle.cd_types.specs.declared.refusal.RefusalKind.TheVariants.{KindMismatch, SeesChunks, NeedsElements, BoundTooLarge, OpenEnd}
 use Rattle.cd_types.specs.Conditions.{Fails, none_fails, fails_where}
-use Rattle.cd_types.specs.Flows.{Flow, PartType, bound_of, sort_in, is_nothing, is_cut, is_pieces, agree, join, piece_bound}
+use Rattle.cd_types.specs.Flows.{Flow, PartType, bound_of, sort_in, is_nothing, is_cut, is_pieces, agree, piece_bound}
 use Rattle.cd_types.specs.Forms.{form_of_one, form_of_two, input_fails, none_asked, section_type, element_section, piece_section, mark_type, mark_part, tee_type, tee_fails, tee_part, zip_source_fails, zip_source_second_fails, zip_sink_fails, zipped, zip_source_type, zip_sink_type, zip_conduit_type, zip_source_part, zip_sink_part, zip_conduit_part}
 use Rattle.cd_types.specs.Moments.{Moment, Reached, reach, begin_part, ask, end_part, AllPass}
 use Rattle.cd_types.specs.Parts.{Part}
 use Rattle.cd_types.specs.Trees.{part, part_step}
-use Rattle.cd_types.proofs.LawfulParts.{split}
+use Rattle.cd_types.proofs.Passing.{left_false, own_passes, split}
 use Rattle.cd_types.proofs.PartFacts.{Facts, AllFacts, word_facts, sequence_facts, chain_facts, sorts_joined}
 use Rattle.cd_types.proofs.Sums.{site_list, sites_in, adds_in, sites_append, adds_append, bounds_append}
-use Rattle.cd_types.proofs.WordFacts.{own_passes, right_false, keeps_sort}
+use Rattle.cd_types.proofs.WordFacts.{keeps_sort}
 
 -- ---- forms of one part
 
@@ -154,10 +153,6 @@ module _ (type : Flow → PartType) (input : Flow → Flow) (conditions : Flow �
         first_asked = own_passes (fold reach (reach r (ask s n (conditions f))) (left_moments s n f)) (first_moment s n f) q.1.0;
         second_asked = own_passes (fold reach (reach r (ask s n (conditions f))) (left_moments s n f ++ first_moment s n f ∷ right_moments s n f)) (second_moment s n f) p.1.0;
       }
-
-left_false : (a b : Bool) → (a || b) ≡ false → a ≡ false
-left_false true b e = e
-left_false false b e = refl
 
 -- of a flow that is something, the join is its sort
 some_joined : (g : Flow) (x : stream.Flow) → is_nothing g ≡ false → join_sorts (sort_in g) x ≡ sort_in g

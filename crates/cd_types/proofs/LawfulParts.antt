@@ -1,6 +1,5 @@
 -- A script that has a type is lawful.
 use Rattle.std.proofs.Common.{◌≡◌, ℕ, ◌+◌, Bool, true, false, ◌&&◌, ◌||◌, not, nat_lt, IsTrue, List, [], ◌∷◌, ◌++◌, map, None, refl, ap, sym, ◌∙◌, subst}
-use Rattle.std.specs.List.{fold}
 use Rattle.cd_elem.specs.declared.script.Join.{Join}
 use Rattle.cd_elem.specs.declared.script.Stmt.{Stmt}
 use Rattle.cd_elem.specs.declared.script.Pipe.{Pipe, map-Pipe}
@@ -20,13 +19,7 @@ use Rattle.cd_types.specs.Trees.{part, part_step}
 use Rattle.cd_types.specs.Typing.{HasType}
 use Rattle.cd_elem.specs.Limits.{piece_limit}
 use Rattle.cd_types.specs.declared.refusal.RefusalKind.TheVariants.{KindMismatch, SeesChunks, BoundTooLarge, OpenEnd}
-
--- moments pass where those in front and those behind do
-pub split : (r : Reached) (ms ns : List Moment) → AllPass r (ms ++ ns) → AllPass r ms × AllPass (fold reach r ms) ns
-split r [] ns h = (tt, h)
-split r (m ∷ ms) ns h =
-    let s = split (reach r m) ms ns h.1 in
-    ((h.0, s.0), s.1)
+use Rattle.cd_types.proofs.Passing.{split}
 
 -- what is judged of a part that passes
 record Fits (a : Part) (j : Lawfulness) : Type 0 where

@@ -1,7 +1,9 @@
 pub mod Apart
 pub mod FormFacts
 pub mod LawfulParts
+pub mod Limits
 pub mod PartFacts
+pub mod Passing
 pub mod ScopedNames
 pub mod ScriptFacts
 pub mod StandingNames

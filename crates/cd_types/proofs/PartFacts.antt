@@ -1,35 +1,26 @@
 -- What is said of a part, against its meaning: its sites are the places, in their order; the sum of its bounds is what its moments add; there is a type for
 -- each part in it; and where nothing fails in it, it gives what its meaning gives.
-use Rattle.std.proofs.Common.{◌≡◌, ℕ, suc, ◌+◌, Bool, true, false, ◌&&◌, ◌||◌, not, nat_lt, List, [], ◌∷◌, ◌++◌, length, map, Option, Some, None, refl, ap, sym, ◌∙◌, subst, append_assoc, arith}
+use Rattle.std.proofs.Common.{◌≡◌, ℕ, ◌+◌, Bool, true, false, List, [], ◌∷◌, ◌++◌, length, Some, None, refl, ap, sym, ◌∙◌, arith}
 use Rattle.std.specs.List.{fold}
 use Rattle.std.proofs.lemmas.List.{append-nil, length-append}
-use Rattle.cd_elem.specs.Limits.{piece_limit}
 use Rattle.cd_elem.specs.declared.kind.Kind.{Kind}
 use Rattle.cd_elem.specs.declared.word.Word.{Word}
 use Rattle.cd_elem.specs.declared.script.Join.{Join}
-use Rattle.cd_elem.specs.declared.script.Pipe.{Pipe, map-Pipe}
-use Rattle.cd_elem.specs.declared.script.Pipe.TheOpen.{Pipe-F}
-use Rattle.cd_elem.specs.declared.script.Pipe.TheViews.{roll-Pipe}
-use Rattle.cd_elem.specs.declared.script.Pipe.TheFolds.{fold-roll-Pipe, ind-Pipe}
-use Rattle.cd_meaning.specs.Meaning.{Meaning, sequence_form, exactly_form, line_e_form, mark_form, tee_form, zip_source_form, zip_sink_form, zip_conduit_form}
-use Rattle.cd_meaning.specs.Places.{Place, Marks}
-use Rattle.cd_meaning.specs.Pipes.{joined, all_of, node_meaning, pipe_meaning}
+use Rattle.cd_meaning.specs.Meaning.{Meaning, sequence_form}
+use Rattle.cd_meaning.specs.Places.{Place}
+use Rattle.cd_meaning.specs.Pipes.{joined, all_of}
 use Rattle.cd_meaning.specs.Sorts.{join as join_sorts}
 use Rattle.cd_meaning.specs.Stream as stream
 use Rattle.cd_meaning.specs.WordMeanings.{word_meaning}
-use Rattle.cd_types.specs.declared.refusal.RefusalKind.TheVariants.{KindMismatch, SeesChunks, BoundTooLarge, OpenEnd}
 use Rattle.cd_types.specs.Chains.{first_type, member_types, chain_type, chain_types, chain_moments, chain_part, last_output, member_fails}
-use Rattle.cd_types.specs.Conditions.{Fails, lowest, none_fails, fails_where}
-use Rattle.cd_types.specs.Flows.{Flow, PartType, bound_of, sort_in, is_nothing, is_cut, agree, join, with_bound, piece_bound}
-use Rattle.cd_types.specs.Forms.{form_of_one, form_of_two, input_fails, none_asked, zip_source_fails, zip_source_second_fails, zip_sink_fails, zipped, zip_source_type, zip_sink_type, zip_conduit_type, zip_source_part, zip_sink_part, zip_conduit_part}
+use Rattle.cd_types.specs.Flows.{Flow, bound_of, sort_in, join}
 use Rattle.cd_types.specs.Moments.{Moment, Reached, reach, begin_part, ask, end_part, AllPass}
 use Rattle.cd_types.specs.Parts.{Part, sizes, is_last, word_part}
-use Rattle.cd_types.specs.Sequences.{sequence_type, sequence_types, sequence_moments, sequence_part, sequence_fails, joined_from, joined_outputs}
-use Rattle.cd_types.specs.Trees.{part, part_step}
+use Rattle.cd_types.specs.Sequences.{sequence_types, sequence_moments, sequence_part, sequence_fails, joined_from, joined_outputs}
 use Rattle.cd_types.specs.WordTypes.{word_site, word_fails}
-use Rattle.cd_types.proofs.LawfulParts.{split}
+use Rattle.cd_types.proofs.Passing.{own_passes, split}
 use Rattle.cd_types.proofs.Sums.{site_list, sites_in, adds_in, sites_append, adds_append, bounds_append}
-use Rattle.cd_types.proofs.WordFacts.{own_passes, word_place, word_output}
+use Rattle.cd_types.proofs.WordFacts.{word_place, word_output}
 
 pub record Facts (a : Part) (m : Meaning) : Type 0 where
   pub places : (s n : ℕ) (f : Flow) → sites_in (a.moments s n f) ≡ m.places

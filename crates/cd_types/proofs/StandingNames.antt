@@ -1,43 +1,21 @@
 -- A script that has a type uses its names while they stand.
-use Rattle.std.proofs.Common.{◌≡◌, ℕ, ◌+◌, Bool, true, false, ◌&&◌, ◌||◌, not, if◌then◌else◌, List, [], ◌∷◌, ◌++◌, length, map, bytes_eq, nat_lt, Option, Some, None, ◌⊎◌, inl, inr, refl, ap, sym, ◌∙◌, subst}
+use Rattle.std.proofs.Common.{◌≡◌, ℕ, ◌+◌, Bool, true, false, ◌&&◌, ◌||◌, not, if◌then◌else◌, List, [], ◌∷◌, ◌++◌, length, map, bytes_eq, nat_lt, ◌⊎◌, inl, inr, refl, ap, sym, ◌∙◌, subst}
 use Rattle.std.specs.List.{fold, list_any}
 use Rattle.std.proofs.lemmas.Bool.{cases_Bool}
 use Rattle.std.proofs.lemmas.List.Folds.{list_any-append}
 use Rattle.std.proofs.lemmas.Slice.Eq.{bytes_eq-Decides}
 use Rattle.cd_elem.specs.declared.script.Stmt.{Stmt}
 use Rattle.cd_meaning.specs.Scripts.{with_name}
-use Rattle.cd_types.specs.Conditions.{Fails, fails_where, lowest}
+use Rattle.cd_types.specs.Conditions.{Fails, fails_where}
 use Rattle.cd_types.specs.Limits.{statement_limit}
-use Rattle.cd_types.specs.Moments.{Moment, ask, begin_part, Reached, reach, nothing_reached, AllPass, fails_at}
+use Rattle.cd_types.specs.Moments.{ask, begin_part, Reached, reach, nothing_reached, AllPass, fails_at}
 use Rattle.cd_types.specs.Scoped.{UsesStanding, IsScoped}
 use Rattle.cd_types.specs.Statements.{Statement, statement_of, seals_as, closes_as, holds_as, releases_as, is_seal, is_closed, is_key, is_released, statement_fails, statement_site, statement_moments, moments_behind}
 use Rattle.cd_types.specs.Trees.{part}
 use Rattle.cd_types.specs.Typing.{HasType}
 use Rattle.cd_types.proofs.ScopedNames.{uses_same}
-use Rattle.cd_types.specs.declared.refusal.RefusalKind.TheVariants.{KindMismatch, SeesChunks, NeedsElements, DropsRest, NotInvertible, NameTwice, Seal, BoundTooLarge, ResultLost, TooMany, OpenEnd, Key}
-
-none_if : {A : Type 0} (b : Bool) (x : A) (o : Option A) → (if b then Some x else o) ≡ None → (b ≡ false) × (o ≡ None)
-none_if true x o e = let f : ⊥ = cc in absurd f
-none_if false x o e = (refl, e)
-
-no_seal_fails : (fails : Fails) → lowest fails ≡ None → (fails Seal ≡ false) × (fails Key ≡ false)
-no_seal_fails fails e =
-    let a = none_if (fails KindMismatch) _ _ e in
-    let b = none_if (fails SeesChunks) _ _ a.1 in
-    let c = none_if (fails NeedsElements) _ _ b.1 in
-    let d = none_if (fails DropsRest) _ _ c.1 in
-    let f = none_if (fails NotInvertible) _ _ d.1 in
-    let g = none_if (fails NameTwice) _ _ f.1 in
-    let h = none_if (fails Seal) _ _ g.1 in
-    let i = none_if (fails BoundTooLarge) _ _ h.1 in
-    let j = none_if (fails ResultLost) _ _ i.1 in
-    let k = none_if (fails TooMany) _ _ j.1 in
-    let l = none_if (fails OpenEnd) _ _ k.1 in
-    (h.0, (none_if (fails Key) _ _ l.1).0)
-
-behind : (r : Reached) (ms ns : List Moment) → AllPass r (ms ++ ns) → AllPass (fold reach r ms) ns
-behind r [] ns h = h
-behind r (m ∷ ms) ns h = behind (reach r m) ms ns h.1
+use Rattle.cd_types.specs.declared.refusal.RefusalKind.TheVariants.{Seal, TooMany, Key}
+use Rattle.cd_types.proofs.Passing.{none_of, split}
 
 -- ---- what stands behind statements
 
@@ -139,10 +117,10 @@ names_stand r before (Stmt.Run p ∷ more) known h =
     (λ n. stands_more (holds_as n) (releases_as n) before s ∙ neither (is_key before n) (is_released before n))
     (names_stand (fold reach r (statement_moments (length before + 1) before s)) (before ++ s ∷ []) more
     (record { closed = λ n. known_more (seals_as n) (closes_as n) before s (known.closed n) no_true; released = λ n. known_more (holds_as n) (releases_as n) before s (known.released n) no_true })
-    (behind r (statement_moments (length before + 1) before s) (moments_behind (before ++ s ∷ []) (map statement_of more)) h))
+    (split r (statement_moments (length before + 1) before s) (moments_behind (before ++ s ∷ []) (map statement_of more)) h).1)
 names_stand r before (Stmt.Seal name p ∷ more) known h =
     let s = Statement.Let name (part p) in
-    let free : is_seal before name ≡ false = (no_seal_fails (begun r before s) h.1.0).0 in
+    let free : is_seal before name ≡ false = (none_of (begun r before s) h.1.0 Seal) in
     uses_same (sealed (before ++ s ∷ [])) (with_name (sealed before) name true) (held (before ++ s ∷ [])) (held before) more
     (λ n. stands_more (seals_as n) (closes_as n) before s
     ∙ made (is_seal before n) (is_closed before n) (bytes_eq name n) (λ e. of_name (is_closed before) name n false e (known.closed name free))
@@ -150,32 +128,32 @@ names_stand r before (Stmt.Seal name p ∷ more) known h =
     (λ n. stands_more (holds_as n) (releases_as n) before s ∙ neither (is_key before n) (is_released before n))
     (names_stand (fold reach r (statement_moments (length before + 1) before s)) (before ++ s ∷ []) more
     (record { closed = λ n. known_more (seals_as n) (closes_as n) before s (known.closed n) no_true; released = λ n. known_more (holds_as n) (releases_as n) before s (known.released n) no_true })
-    (behind r (statement_moments (length before + 1) before s) (moments_behind (before ++ s ∷ []) (map statement_of more)) h))
+    (split r (statement_moments (length before + 1) before s) (moments_behind (before ++ s ∷ []) (map statement_of more)) h).1)
 names_stand r before (Stmt.Feed name p ∷ more) known h =
     let s = Statement.Feed name (part p) in
-    let was = stood (is_seal before name) (is_closed before name) (no_seal_fails (begun r before s) h.1.0).0 in (
+    let was = stood (is_seal before name) (is_closed before name) (none_of (begun r before s) h.1.0 Seal) in (
       was.0,
       uses_same (sealed (before ++ s ∷ [])) (sealed before) (held (before ++ s ∷ [])) (held before) more
           (λ n. stands_more (seals_as n) (closes_as n) before s ∙ neither (is_seal before n) (is_closed before n))
           (λ n. stands_more (holds_as n) (releases_as n) before s ∙ neither (is_key before n) (is_released before n))
           (names_stand (fold reach r (statement_moments (length before + 1) before s)) (before ++ s ∷ []) more
           (record { closed = λ n. known_more (seals_as n) (closes_as n) before s (known.closed n) no_true; released = λ n. known_more (holds_as n) (releases_as n) before s (known.released n) no_true })
-          (behind r (statement_moments (length before + 1) before s) (moments_behind (before ++ s ∷ []) (map statement_of more)) h)),
+          (split r (statement_moments (length before + 1) before s) (moments_behind (before ++ s ∷ []) (map statement_of more)) h).1),
     )
 names_stand r before (Stmt.CloseSeal name p ∷ more) known h =
     let s = Statement.CloseSeal name (part p) in
-    let was = stood (is_seal before name) (is_closed before name) (no_seal_fails (begun r before s) h.1.0).0 in (
+    let was = stood (is_seal before name) (is_closed before name) (none_of (begun r before s) h.1.0 Seal) in (
       was.0,
       uses_same (sealed (before ++ s ∷ [])) (with_name (sealed before) name false) (held (before ++ s ∷ [])) (held before) more
           (λ n. stands_more (seals_as n) (closes_as n) before s ∙ ended (is_seal before n) (is_closed before n) (bytes_eq name n) ∙ turned name n false (sealed before n))
           (λ n. stands_more (holds_as n) (releases_as n) before s ∙ neither (is_key before n) (is_released before n))
           (names_stand (fold reach r (statement_moments (length before + 1) before s)) (before ++ s ∷ []) more
           (record { closed = λ n. known_more (seals_as n) (closes_as n) before s (known.closed n) (λ e. of_name (is_seal before) name n true e was.1); released = λ n. known_more (holds_as n) (releases_as n) before s (known.released n) no_true })
-          (behind r (statement_moments (length before + 1) before s) (moments_behind (before ++ s ∷ []) (map statement_of more)) h)),
+          (split r (statement_moments (length before + 1) before s) (moments_behind (before ++ s ∷ []) (map statement_of more)) h).1),
     )
 names_stand r before (Stmt.Hold name file ∷ more) known h =
     let s = Statement.Hold name file in
-    let free : is_key before name ≡ false = (no_seal_fails (begun r before s) h.1.0).1 in
+    let free : is_key before name ≡ false = (none_of (begun r before s) h.1.0 Key) in
     uses_same (sealed (before ++ s ∷ [])) (sealed before) (held (before ++ s ∷ [])) (with_name (held before) name true) more
     (λ n. stands_more (seals_as n) (closes_as n) before s ∙ neither (is_seal before n) (is_closed before n))
     (λ n. stands_more (holds_as n) (releases_as n) before s
@@ -183,17 +161,17 @@ names_stand r before (Stmt.Hold name file ∷ more) known h =
     ∙ turned name n true (held before n))
     (names_stand (fold reach r (statement_moments (length before + 1) before s)) (before ++ s ∷ []) more
     (record { closed = λ n. known_more (seals_as n) (closes_as n) before s (known.closed n) no_true; released = λ n. known_more (holds_as n) (releases_as n) before s (known.released n) no_true })
-    (behind r (statement_moments (length before + 1) before s) (moments_behind (before ++ s ∷ []) (map statement_of more)) h))
+    (split r (statement_moments (length before + 1) before s) (moments_behind (before ++ s ∷ []) (map statement_of more)) h).1)
 names_stand r before (Stmt.Release name ∷ more) known h =
     let s = Statement.Release name in
-    let was = stood (is_key before name) (is_released before name) (no_seal_fails (begun r before s) h.1.0).1 in (
+    let was = stood (is_key before name) (is_released before name) (none_of (begun r before s) h.1.0 Key) in (
       was.0,
       uses_same (sealed (before ++ s ∷ [])) (sealed before) (held (before ++ s ∷ [])) (with_name (held before) name false) more
           (λ n. stands_more (seals_as n) (closes_as n) before s ∙ neither (is_seal before n) (is_closed before n))
           (λ n. stands_more (holds_as n) (releases_as n) before s ∙ ended (is_key before n) (is_released before n) (bytes_eq name n) ∙ turned name n false (held before n))
           (names_stand (fold reach r (statement_moments (length before + 1) before s)) (before ++ s ∷ []) more
           (record { closed = λ n. known_more (seals_as n) (closes_as n) before s (known.closed n) no_true; released = λ n. known_more (holds_as n) (releases_as n) before s (known.released n) (λ e. of_name (is_key before) name n true e was.1) })
-          (behind r (statement_moments (length before + 1) before s) (moments_behind (before ++ s ∷ []) (map statement_of more)) h)),
+          (split r (statement_moments (length before + 1) before s) (moments_behind (before ++ s ∷ []) (map statement_of more)) h).1),
     )
 
 pub typed_is_scoped : (script : List Stmt) → HasType script → IsScoped script

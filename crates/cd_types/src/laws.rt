@@ -1,5 +1,5 @@
 // Laws of the typing. Each is the contract of a function that does nothing.
-ghost use Rattle.std.specs.Prelude.{◌≡◌, ℕ, List, [], IsTrue, length, ◌⊎◌};
+ghost use Rattle.std.specs.Prelude.{◌≡◌, ◌≤◌, ℕ, List, [], IsTrue, length, ◌⊎◌};
 ghost use Rattle.cd_elem.specs.declared.script.Pipe.{Pipe};
 ghost use Rattle.cd_elem.specs.declared.script.Stmt.{Stmt};
 ghost use Rattle.cd_meaning.specs.LawfulTrees.{IsLawfulScript};
@@ -8,6 +8,7 @@ ghost use Rattle.cd_meaning.specs.Scripts.{script_places};
 ghost use Rattle.cd_types.specs.declared.refusal.Refusal.{Refusal};
 ghost use Rattle.cd_types.specs.Chains.{first_type};
 ghost use Rattle.cd_types.specs.Flows.{Flow, bound_of, sort_in};
+ghost use Rattle.cd_types.specs.Limits.{site_limit, statement_limit, total_limit};
 ghost use Rattle.cd_types.specs.Moments.{AllPass, Reached, reached_by};
 ghost use Rattle.cd_types.specs.Scoped.{IsScoped};
 ghost use Rattle.cd_types.specs.Sites.{are_apart};
@@ -29,11 +30,15 @@ pub fn judging()
     ensures unique { (script : List Stmt) (x y : Refusal) → IsRefused script x → IsRefused script y → x ≡ y }
 {}
 
-/// A script that has a type is lawful, uses each name only while it stands, and no two of its sites clash.
+/// A script that has a type is lawful, uses each name only while it stands, no two of its sites clash, and it has no more
+/// statements, sites and elements to hold than the limits allow.
 pub fn typed_scripts()
     ensures lawful { (script : List Stmt) → HasType script → IsLawfulScript script }
     ensures scoped { (script : List Stmt) → HasType script → IsScoped script }
     ensures apart { (script : List Stmt) → HasType script → IsTrue (are_apart [] (script_places script)) }
+    ensures statements { (script : List Stmt) → HasType script → length script ≤ statement_limit }
+    ensures few_sites { (script : List Stmt) → HasType script → length (script_places script) ≤ site_limit }
+    ensures total { (script : List Stmt) → HasType script → bounds_of (script_types script) ≤ total_limit }
 {}
 
 /// What the typing says of sites, bounds and outputs, against the meaning.
