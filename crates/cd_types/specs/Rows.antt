@@ -1,5 +1,6 @@
 -- Worked rows, which hold by computation alone.
 pub mod Bounds
+pub mod Examples
 pub mod Names
 pub mod Numbers
 pub mod PartTypes
