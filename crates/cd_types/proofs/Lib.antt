@@ -2,6 +2,7 @@ pub mod Apart
 pub mod FormFacts
 pub mod LawfulParts
 pub mod Limits
+pub mod Numbers
 pub mod PartFacts
 pub mod Passing
 pub mod ScopedNames

@@ -1,5 +1,5 @@
 -- Statements: what fails where one begins, what is asked behind its pipe, and its moments.
-use Rattle.std.specs.Prelude.{ℕ, ◌+◌, Bool, false, ◌&&◌, ◌||◌, not, nat_lt, bytes_eq, if◌then◌else◌, List, [], ◌∷◌, ◌++◌, length, map, Option, Some, None}
+use Rattle.std.specs.Prelude.{ℕ, zero, suc, ◌+◌, ◌≤◌, Bool, false, ◌&&◌, ◌||◌, not, nat_lt, bytes_eq, if◌then◌else◌, List, [], ◌∷◌, ◌++◌, length, map, Option, Some, None}
 use Rattle.std.specs.List.{list_any}
 use Rattle.cd_elem.specs.declared.script.Stmt.{Stmt}
 use Rattle.cd_meaning.specs.Places.{Place, Marks}
@@ -134,6 +134,13 @@ types_behind before (s ∷ more) = statement_types before s ∷ types_behind (be
 
 abbrev pub script_types : List Stmt → List (List PartType)
 script_types script = types_behind [] (map statement_of script)
+
+-- The statement of this number has a part of this number, where its parts have these types. Both count from 1, and part 0 is the statement itself.
+abbrev pub HasPart : List (List PartType) → ℕ → ℕ → Type 0
+HasPart [] statement part = ⊥
+HasPart (ts ∷ more) zero part = ⊥
+HasPart (ts ∷ more) (suc zero) part = part ≤ length ts
+HasPart (ts ∷ more) (suc (suc statement)) part = HasPart more (suc statement) part
 
 -- the sum of the bounds of all parts of all statements
 abbrev pub bounds_of : List (List PartType) → ℕ

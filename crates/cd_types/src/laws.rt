@@ -12,13 +12,14 @@ ghost use Rattle.cd_types.specs.Limits.{site_limit, statement_limit, total_limit
 ghost use Rattle.cd_types.specs.Moments.{AllPass, Reached, reached_by};
 ghost use Rattle.cd_types.specs.Scoped.{IsScoped};
 ghost use Rattle.cd_types.specs.Sites.{are_apart};
-ghost use Rattle.cd_types.specs.Statements.{bounds_of, script_moments, script_types};
+ghost use Rattle.cd_types.specs.Statements.{HasPart, bounds_of, script_moments, script_types};
 ghost use Rattle.cd_types.specs.Trees.{part};
 ghost use Rattle.cd_types.specs.Typing.{HasType, IsRefused, Passed, Refused, judged};
 
 /// Judging a script is finding out whether it has a type, and what is refused first in it.
 ///
-/// Each script is judged, so it has a type or is refused; it never is both, and only one refusal is the first.
+/// Each script is judged, so it has a type or is refused; it never is both, and only one refusal is the first. A refusal names
+/// a statement of the script, and a part of it or the statement itself.
 pub fn judging()
     ensures passed { (script : List Stmt) (r : Reached) → judged script ≡ Passed r → HasType script }
     ensures reaches { (script : List Stmt) (r : Reached) → judged script ≡ Passed r → reached_by (script_moments script) ≡ r }
@@ -27,6 +28,7 @@ pub fn judging()
     ensures only { (script : List Stmt) (x : Refusal) → IsRefused script x → judged script ≡ Refused x }
     ensures either { (script : List Stmt) → HasType script ⊎ ((x : Refusal) × IsRefused script x) }
     ensures never_both { (script : List Stmt) (x : Refusal) → HasType script → IsRefused script x → ⊥ }
+    ensures stands { (script : List Stmt) (x : Refusal) → IsRefused script x → HasPart (script_types script) x.statement x.part }
     ensures unique { (script : List Stmt) (x y : Refusal) → IsRefused script x → IsRefused script y → x ≡ y }
 {}
 

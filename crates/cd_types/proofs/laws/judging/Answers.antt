@@ -1,5 +1,6 @@
 use Rattle.cd_types.specs.Moments.{nothing_reached}
 use Rattle.cd_types.specs.Statements.{script_moments}
+use Rattle.cd_types.proofs.Numbers.{refused_at_a_part}
 use Rattle.cd_types.proofs.Verdicts.{all_pass, passed_so, reaches_so, refused_so, only_so, either_so, never_both_so, unique_so}
 use Rattle.cd_types.proofs.laws.judging.Goals as goal
 
@@ -26,3 +27,6 @@ returns-clause-never_both c = λ script x h w. never_both_so script x h w
 
 pub returns-clause-unique : goal.returns-clause-unique
 returns-clause-unique c = λ script x y v w. unique_so script x y v w
+
+pub returns-clause-stands : goal.returns-clause-stands
+returns-clause-stands c = λ script x w. refused_at_a_part script x w
