@@ -184,15 +184,15 @@ module _ (a b : Part) (m k : Meaning) (o : Facts a m) (u : Facts b k) where
   zip_sink_facts : Facts (zip_sink_part a b) (zip_sink_form m k)
   zip_sink_facts = record {
     places = two_places (zip_sink_type a b) (λ f. f) (λ f. fails_where OpenEnd (is_nothing f)) zip_sink_fails (λ t u. zip_sink_fails u)
-        (λ f. fails_where SeesChunks (is_cut f && (a.shows_cuts || b.shows_cuts || (a.sites && b.sites)))) a b m k o u;
+        (λ f. fails_where SeesChunks (is_cut f && (a.shows_cuts || b.shows_cuts || (a.has_site && b.has_site)))) a b m k o u;
     bounds = two_bounds (zip_sink_type a b) (λ f. f) (λ f. fails_where OpenEnd (is_nothing f)) zip_sink_fails (λ t u. zip_sink_fails u)
-        (λ f. fails_where SeesChunks (is_cut f && (a.shows_cuts || b.shows_cuts || (a.sites && b.sites)))) a b m k o u;
+        (λ f. fails_where SeesChunks (is_cut f && (a.shows_cuts || b.shows_cuts || (a.has_site && b.has_site)))) a b m k o u;
     size = two_size (zip_sink_type a b) (λ f. f) (λ f. fails_where OpenEnd (is_nothing f)) zip_sink_fails (λ t u. zip_sink_fails u)
-        (λ f. fails_where SeesChunks (is_cut f && (a.shows_cuts || b.shows_cuts || (a.sites && b.sites)))) a b m k o u;
+        (λ f. fails_where SeesChunks (is_cut f && (a.shows_cuts || b.shows_cuts || (a.has_site && b.has_site)))) a b m k o u;
     first = λ f. refl;
     gives = λ r s n f h.
         let p = two_passed (zip_sink_type a b) (λ f. f) (λ f. fails_where OpenEnd (is_nothing f)) zip_sink_fails (λ t u. zip_sink_fails u)
-        (λ f. fails_where SeesChunks (is_cut f && (a.shows_cuts || b.shows_cuts || (a.sites && b.sites)))) a b m k o u r s n f h
+        (λ f. fails_where SeesChunks (is_cut f && (a.shows_cuts || b.shows_cuts || (a.has_site && b.has_site)))) a b m k o u r s n f h
         in
         ap (λ x. join_sorts x (k.gives (sort_in f))) (p.left ∙ nothing_given (a.type f).to (p.first_asked KindMismatch))
         ∙ p.right ∙ nothing_given (b.type f).to (p.second_asked KindMismatch);

@@ -12,7 +12,7 @@ use Rattle.cd_types.specs.Conditions.{Fails, none_fails, fails_where, lowest}
 use Rattle.cd_types.specs.Flows.{Flow, PartType, is_cut, is_nothing, agree, piece_bound}
 use Rattle.cd_types.specs.Forms.{form_of_two, input_fails, none_asked, zip_sink_fails, zip_source_fails, zip_source_second_fails, zipped, zip_source_type, zip_sink_type, zip_conduit_type}
 use Rattle.cd_types.specs.Moments.{Moment, ask, Reached, reach, nothing_reached, AllPass}
-use Rattle.cd_types.specs.Parts.{Part, all_maps}
+use Rattle.cd_types.specs.Parts.{Part, all_invertible}
 use Rattle.cd_types.specs.Sequences.{sequence_moments, sequence_part}
 use Rattle.cd_types.specs.Statements.{Statement, statement_of, moments_behind, statement_moments}
 use Rattle.cd_types.specs.Trees.{part, part_step}
@@ -23,7 +23,7 @@ use Rattle.cd_types.proofs.Passing.{split}
 
 -- what is judged of a part that passes
 record Fits (a : Part) (j : Lawfulness) : Type 0 where
-  maps : a.map ≡ j.map
+  maps : a.invertible ≡ j.map
   lawful : (r : Reached) (s n : ℕ) (f : Flow) → AllPass r (a.moments s n f) → IsTrue j.lawful
 
 abbrev FitAll : List Part → List Lawfulness → Type 0
@@ -36,11 +36,11 @@ both : (a b : Bool) → IsTrue a → IsTrue b → IsTrue (a && b)
 both true b h k = k
 both false b h k = let f : ⊥ = cc in absurd f
 
-same_maps : (parts : List Part) (js : List Lawfulness) → FitAll parts js → all_maps parts ≡ maps_of js
+same_maps : (parts : List Part) (js : List Lawfulness) → FitAll parts js → all_invertible parts ≡ maps_of js
 same_maps [] [] o = refl
 same_maps [] (j ∷ js) o = absurd o
 same_maps (a ∷ parts) [] o = absurd o
-same_maps (a ∷ parts) (j ∷ js) o = ap (λ b. b && all_maps parts) o.0.maps ∙ ap (λ b. j.map && b) (same_maps parts js o.1)
+same_maps (a ∷ parts) (j ∷ js) o = ap (λ b. b && all_invertible parts) o.0.maps ∙ ap (λ b. j.map && b) (same_maps parts js o.1)
 
 in_sequence : (s n : ℕ) (g f : Flow) (r : Reached) (parts : List Part) (js : List Lawfulness) → FitAll parts js → AllPass r (sequence_moments s n g f parts) → IsTrue (all_lawful js)
 in_sequence s n g f r [] [] o h = refl
@@ -74,7 +74,7 @@ in_kept s n first f r (a ∷ []) (k ∷ l ∷ js) o h = absurd o.1
 in_kept s n first f r (a ∷ b ∷ parts) (k ∷ []) o h = absurd o.1
 in_kept s n first f r (a ∷ b ∷ parts) (k ∷ l ∷ js) o h =
     let p = split r (a.moments s n f) _ h in
-    both k.map (maps_but_last (l ∷ js)) (sym o.0.maps ∙ is_kept_map a.map (a.type f) first p.1.0)
+    both k.map (maps_but_last (l ∷ js)) (sym o.0.maps ∙ is_kept_map a.invertible (a.type f) first p.1.0)
     (in_kept s (n + a.size) false (a.type f).to _ (b ∷ parts) (l ∷ js) o.1 p.1.1)
 
 module _ (parts : List Part) (js : List Lawfulness) (o : FitAll parts js) where
@@ -145,7 +145,7 @@ each (Pipe-F.Tee a) = at_node (Pipe-F.Tee a.0) (record { maps = refl; lawful = �
 each (Pipe-F.ZipSource a b literal) = at_node (Pipe-F.ZipSource a.0 b.0 literal) (of_two (zip_source_type (part a.0) (part b.0) literal) (λ f. None) (λ f. none_fails) zip_source_fails zip_source_second_fails
     (λ f. fails_where BoundTooLarge (nat_lt piece_limit (piece_bound (zipped (part a.0) (part b.0) literal)))) (part a.0) (part b.0) (judged a.0) (judged b.0) a.1 b.1)
 each (Pipe-F.ZipSink a b) = at_node (Pipe-F.ZipSink a.0 b.0) (of_two (zip_sink_type (part a.0) (part b.0)) (λ f. f) (λ f. fails_where OpenEnd (is_nothing f)) zip_sink_fails (λ t u. zip_sink_fails u)
-    (λ f. fails_where SeesChunks (is_cut f && ((part a.0).shows_cuts || (part b.0).shows_cuts || ((part a.0).sites && (part b.0).sites)))) (part a.0) (part b.0) (judged a.0) (judged b.0) a.1 b.1)
+    (λ f. fails_where SeesChunks (is_cut f && ((part a.0).shows_cuts || (part b.0).shows_cuts || ((part a.0).has_site && (part b.0).has_site)))) (part a.0) (part b.0) (judged a.0) (judged b.0) a.1 b.1)
 each (Pipe-F.ZipConduit a b) = at_node (Pipe-F.ZipConduit a.0 b.0) (of_two (zip_conduit_type (part a.0) (part b.0)) (λ f. f) (input_fails SeesChunks is_cut) none_asked
     (λ t u. fails_where KindMismatch (not (agree t.to u.to))) (λ f. none_fails) (part a.0) (part b.0) (judged a.0) (judged b.0) a.1 b.1)
 

@@ -162,7 +162,7 @@ each (Pipe-F.Tee a) = at_node (Pipe-F.Tee a.0) (one_numbered tee_type (input_fai
 each (Pipe-F.ZipSource a b literal) = at_node (Pipe-F.ZipSource a.0 b.0 literal) (two_numbered (zip_source_type (part a.0) (part b.0) literal) (λ f. None) (λ f. none_fails) zip_source_fails zip_source_second_fails
     (λ f. fails_where BoundTooLarge (nat_lt piece_limit (piece_bound (zipped (part a.0) (part b.0) literal)))) (part a.0) (part b.0) a.1 b.1)
 each (Pipe-F.ZipSink a b) = at_node (Pipe-F.ZipSink a.0 b.0) (two_numbered (zip_sink_type (part a.0) (part b.0)) (λ f. f) (λ f. fails_where OpenEnd (is_nothing f)) zip_sink_fails (λ t u. zip_sink_fails u)
-    (λ f. fails_where SeesChunks (is_cut f && ((part a.0).shows_cuts || (part b.0).shows_cuts || ((part a.0).sites && (part b.0).sites)))) (part a.0) (part b.0) a.1 b.1)
+    (λ f. fails_where SeesChunks (is_cut f && ((part a.0).shows_cuts || (part b.0).shows_cuts || ((part a.0).has_site && (part b.0).has_site)))) (part a.0) (part b.0) a.1 b.1)
 each (Pipe-F.ZipConduit a b) = at_node (Pipe-F.ZipConduit a.0 b.0) (two_numbered (zip_conduit_type (part a.0) (part b.0)) (λ f. f) (input_fails SeesChunks is_cut) none_asked
     (λ t u. fails_where KindMismatch (not (agree t.to u.to))) (λ f. none_fails) (part a.0) (part b.0) a.1 b.1)
 

@@ -181,7 +181,7 @@ chain_adds s n j first f [] [] o = refl
 chain_adds s n j first f [] (m ∷ ms) o = absurd o
 chain_adds s n j first f (a ∷ parts) [] o = absurd o
 chain_adds s n j first f (a ∷ parts) (m ∷ ms) o =
-    let e = adds_append (a.moments s n f) (ask s n (member_fails j a.map (a.type f) first (is_last parts)) ∷ chain_moments s (n + a.size) j false (a.type f).to parts) in
+    let e = adds_append (a.moments s n f) (ask s n (member_fails j a.invertible (a.type f) first (is_last parts)) ∷ chain_moments s (n + a.size) j false (a.type f).to parts) in
     let b = o.0.bounds s n f in
     let c = chain_adds s (n + a.size) j false (a.type f).to parts ms o.1 in
     let d = bounds_append (a.types f) (chain_types (a.type f).to parts) in
@@ -222,7 +222,7 @@ chain_given r s n j first f [] (m ∷ ms) o h = absurd o
 chain_given r s n j first f (a ∷ parts) [] o h = absurd o
 chain_given r s n j first f (a ∷ parts) (m ∷ ms) o h =
     let p = split r (a.moments s n f) _ h in
-    ap (λ x. given_along x ms) (o.0.gives r s n f p.0) ∙ chain_given (reach (fold reach r (a.moments s n f)) (ask s n (member_fails j a.map (a.type f) first (is_last parts)))) s (n + a.size) j false (a.type f).to parts ms o.1 p.1.1
+    ap (λ x. given_along x ms) (o.0.gives r s n f p.0) ∙ chain_given (reach (fold reach r (a.moments s n f)) (ask s n (member_fails j a.invertible (a.type f) first (is_last parts)))) s (n + a.size) j false (a.type f).to parts ms o.1 p.1.1
 
 pub chain_facts : (j : Join) (parts : List Part) (ms : List Meaning) → AllFacts parts ms → Facts (chain_part j parts) (all_of (joined j) ms)
 chain_facts j parts ms o = record {

@@ -6,7 +6,7 @@ use Rattle.cd_types.specs.declared.refusal.RefusalKind.TheVariants.{SeesChunks, 
 use Rattle.cd_types.specs.Flows.{Flow, ResultKind, Unit, Maybe, Pair, PartType, is_cut, is_pieces, piece_bound, is_unit, pieces_list, both_results}
 use Rattle.cd_types.specs.Conditions.{Fails, none_fails, fails_where, or_fails}
 use Rattle.cd_types.specs.Moments.{Moment, ask, end_part}
-use Rattle.cd_types.specs.Parts.{Part, sizes, all_maps, any_shows, any_sites, is_last}
+use Rattle.cd_types.specs.Parts.{Part, sizes, all_invertible, any_shows, any_site, is_last}
 
 -- the types of the members
 abbrev pub member_types : Flow → List Part → List PartType
@@ -91,7 +91,7 @@ member_fails Asked map t first last = none_fails
 abbrev pub chain_moments : ℕ → ℕ → Join → Bool → Flow → List Part → List Moment
 chain_moments s n j first f [] = []
 chain_moments s n j first f (a ∷ more) =
-    a.moments s n f ++ ask s n (member_fails j a.map (a.type f) first (is_last more)) ∷ chain_moments s (n + a.size) j false (a.type f).to more
+    a.moments s n f ++ ask s n (member_fails j a.invertible (a.type f) first (is_last more)) ∷ chain_moments s (n + a.size) j false (a.type f).to more
 
 abbrev pub chain_types : Flow → List Part → List PartType
 chain_types f [] = []
@@ -105,9 +105,9 @@ is_plain _ = false
 abbrev pub chain_part : Join → List Part → Part
 chain_part j parts = record {
   size = 1 + sizes parts;
-  map = is_plain j && all_maps parts;
+  invertible = is_plain j && all_invertible parts;
   shows_cuts = any_shows parts;
-  sites = any_sites parts;
+  has_site = any_site parts;
   type = chain_type j parts;
   types = λ f. chain_type j parts f ∷ chain_types f parts;
   moments = λ s n f. chain_moments s (n + 1) j true f parts ++ end_part s n (chain_type j parts f).bound ∷ [];

@@ -14,9 +14,9 @@ use Rattle.cd_types.specs.WordTypes.{length_in}
 abbrev pub form_of_one : (Flow → PartType) → (Flow → Fails) → Option Place → (PartType → Fails) → Part → Part
 form_of_one type conditions site asked a = record {
   size = 1 + a.size;
-  map = false;
+  invertible = false;
   shows_cuts = a.shows_cuts;
-  sites = is_some site || a.sites;
+  has_site = is_some site || a.has_site;
   type = type;
   types = λ f. type f ∷ a.types f;
   moments = λ s n f. begin_part s n (conditions f) site ∷ a.moments s (n + 1) f ++ ask s (n + 1) (asked (a.type f)) ∷ end_part s n (type f).bound ∷ [];
@@ -58,9 +58,9 @@ tee_part a = form_of_one tee_type (input_fails SeesChunks is_cut) None tee_fails
 abbrev pub form_of_two : (Flow → PartType) → (Flow → Flow) → (Flow → Fails) → (PartType → Fails) → (PartType → PartType → Fails) → (Flow → Fails) → Part → Part → Part
 form_of_two type input conditions first second whole a b = record {
   size = 1 + a.size + b.size;
-  map = false;
+  invertible = false;
   shows_cuts = a.shows_cuts || b.shows_cuts;
-  sites = a.sites || b.sites;
+  has_site = a.has_site || b.has_site;
   type = type;
   types = λ f. type f ∷ a.types (input f) ++ b.types (input f);
   moments = λ s n f. ask s n (conditions f)
@@ -99,7 +99,7 @@ zip_sink_type a b f = record { from = f; to = None; result = both_results (a.typ
 abbrev pub zip_sink_part : Part → Part → Part
 zip_sink_part a b =
     form_of_two (zip_sink_type a b) (λ f. f) (λ f. fails_where OpenEnd (is_nothing f)) zip_sink_fails (λ t u. zip_sink_fails u)
-    (λ f. fails_where SeesChunks (is_cut f && (a.shows_cuts || b.shows_cuts || (a.sites && b.sites)))) a b
+    (λ f. fails_where SeesChunks (is_cut f && (a.shows_cuts || b.shows_cuts || (a.has_site && b.has_site)))) a b
 
 -- `zipConduit`: both parts give what agrees
 abbrev pub zip_conduit_type : Part → Part → Flow → PartType

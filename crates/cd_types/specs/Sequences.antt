@@ -4,7 +4,7 @@ use Rattle.cd_types.specs.declared.refusal.RefusalKind.TheVariants.{KindMismatch
 use Rattle.cd_types.specs.Flows.{Flow, ResultKind, Unit, PartType, is_cut, agree, join}
 use Rattle.cd_types.specs.Conditions.{Fails, fails_where, or_fails}
 use Rattle.cd_types.specs.Moments.{Moment, ask, end_part}
-use Rattle.cd_types.specs.Parts.{Part, sizes, any_shows, any_sites, is_last}
+use Rattle.cd_types.specs.Parts.{Part, sizes, any_shows, any_site, is_last}
 
 abbrev pub all_exact : Flow → List Part → Bool
 all_exact f [] = true
@@ -48,9 +48,9 @@ sequence_types f (a ∷ more) = a.types f ++ sequence_types f more
 abbrev pub sequence_part : List Part → Part
 sequence_part parts = record {
   size = 1 + sizes parts;
-  map = false;
+  invertible = false;
   shows_cuts = any_shows parts;
-  sites = any_sites parts;
+  has_site = any_site parts;
   type = sequence_type parts;
   types = λ f. sequence_type parts f ∷ sequence_types f parts;
   moments = λ s n f. sequence_moments s (n + 1) None f parts ++ end_part s n (sequence_type parts f).bound ∷ [];
