@@ -47,12 +47,18 @@ fn cuts_of(alloc: Global, size: u32) -> Result<NumberList, CaseError> {
 
 fn push_bytes(bytes: &mut Vec<u8>, lines: &str) -> Result<(), CaseError> {
     for line in lines.lines() {
-        let (key, value) = field(line);
-        if key != "fail" {
-            push_text(bytes, key, value)?;
-        }
+        push_line(bytes, line)?;
     }
     Ok(())
+}
+
+/// Adds what a line of a file stands for. A call that is to fail stands for no bytes.
+fn push_line(bytes: &mut Vec<u8>, line: &str) -> Result<(), CaseError> {
+    let (key, value) = field(line);
+    if key == "fail" {
+        return Ok(());
+    }
+    push_text(bytes, key, value)
 }
 
 /// What a file holds.

@@ -47,8 +47,14 @@ fn push_value(text: &mut String, value: &Value) -> Result<(), CaseError> {
             text.push_str("some ")?;
             push_value(text, inner.get())?;
         }
-        Value::BytesV(bytes) => push_byte_list(text, bytes.as_slice())?,
-        Value::TextV(chars) => push_char_list(text, chars.as_slice())?,
+        Value::BytesV(bytes) => {
+            text.push_str("bytes")?;
+            push_byte_list(text, bytes.as_slice())?;
+        }
+        Value::TextV(chars) => {
+            text.push_str("text")?;
+            push_char_list(text, chars.as_slice())?;
+        }
         Value::Pair(_, _) | Value::ListV(_) => {
             return Err(CaseError::Malformed("a word whose value is no pair or list"));
         }
@@ -57,7 +63,6 @@ fn push_value(text: &mut String, value: &Value) -> Result<(), CaseError> {
 }
 
 fn push_byte_list(text: &mut String, bytes: &[u8]) -> Result<(), CaseError> {
-    text.push_str("bytes")?;
     for byte in bytes {
         write!(text, " {byte}")?;
     }
@@ -65,7 +70,6 @@ fn push_byte_list(text: &mut String, bytes: &[u8]) -> Result<(), CaseError> {
 }
 
 fn push_char_list(text: &mut String, chars: &[char]) -> Result<(), CaseError> {
-    text.push_str("text")?;
     for character in chars {
         write!(text, " {}", u32::from(*character))?;
     }
