@@ -22,6 +22,9 @@ from collections import Counter
 from pathlib import Path
 
 DATA = Path(__file__).resolve().parent / "cases"
+TOOL = "tools/cases.py"
+# the module of the folder that is written by hand
+KNOWN = "Known"
 SPECS = "Rattle.cd_meaning.specs"
 WIDTH = 150
 LEAST = 3
@@ -330,9 +333,9 @@ def used_imports(lines):
             yield f"use {module}.{{{', '.join(kept)}}}"
 
 
-def write_modules(out, kind, groups, most):
-    """Groups of lines as modules of at most this many lines."""
-    header = f"-- Cases of tools/cases/{kind.lower()}.jsonl, written by tools/cases.py: the number in a name is the line of the case."
+def write_modules(out, tool, kind, groups, most, imports):
+    """Groups of lines as modules of at most this many lines, with what `imports` makes of them in front; their names."""
+    header = f"-- Cases of tools/cases/{kind.lower()}.jsonl, written by {tool}: the number in a name is the line of the case."
     for old in out.glob(f"{kind}[0-9]*.antt"):
         old.unlink()
     room = most - 15
@@ -345,9 +348,15 @@ def write_modules(out, kind, groups, most):
     if here:
         modules.append(here)
     for number, lines in enumerate(modules, 1):
-        text = [header, *used_imports(lines), "", *lines]
+        text = [header, *imports(lines), "", *lines]
         (out / f"{kind}{number}.antt").write_text("\n".join(text).rstrip() + "\n", encoding="utf-8")
     return [f"{kind}{number}" for number in range(1, len(modules) + 1)]
+
+
+def write_index(out, tool, names):
+    """The file that names the modules of a folder."""
+    index = [f"-- Modules of cases, written by {tool}.", *[f"pub mod {name}" for name in sorted(names)]]
+    Path(f"{out}.antt").write_text("\n".join(index) + "\n", encoding="utf-8")
 
 
 # ---- the choice of cases
@@ -385,42 +394,40 @@ def write_all(out, options):
     for kind, asked, write in (("Words", options.words, word_lines), ("Scripts", options.scripts, script_lines)):
         groups = {line: write(line, case) for line, case in read_cases(f"{kind.lower()}.jsonl").items()}
         chosen = asked if asked is not None else list(groups) if options.all else selection(groups)
-        names += write_modules(out, kind, [groups[line] for line in chosen], options.per)
+        names += write_modules(out, TOOL, kind, [groups[line] for line in chosen], options.per, used_imports)
         lemmas = sum("_so _" in text for line in chosen for text in groups[line])
         told.append(f"{kind.lower()}: {len(chosen)} of {len(groups)} cases, {lemmas} lemmas")
-    index = ["-- Modules of cases, written by tools/cases.py.", *[f"pub mod {name}" for name in sorted(["Known", *names])]]
-    Path(f"{out}.antt").write_text("\n".join(index) + "\n", encoding="utf-8")
+    write_index(out, TOOL, [KNOWN, *names])
     return told
 
 
-def stale(out, options):
-    """The files that are not what would be written."""
+def stale(out, options, write, kept):
+    """The files that are not what would be written; those of these names are written by hand."""
     with tempfile.TemporaryDirectory() as folder:
-        wanted = Path(folder) / out.name
-        write_all(wanted, options)
+        write(Path(folder) / out.name, options)
         files = {path.relative_to(folder): path.read_bytes() for path in Path(folder).rglob("*.antt")}
-    here = {path.relative_to(out.parent) for path in out.glob("*.antt")} - {Path(out.name) / "Known.antt"}
-    other = here - set(files)
-    return sorted([path for path, text in files.items() if not (out.parent / path).exists() or (out.parent / path).read_bytes() != text] + list(other))
+    here = {path.relative_to(out.parent) for path in out.glob("*.antt") if path.stem not in kept}
+    return sorted([path for path, text in files.items() if not (out.parent / path).exists() or (out.parent / path).read_bytes() != text] + list(here - set(files)))
 
 
-def main():
-    parser = argparse.ArgumentParser(usage=__doc__.split("usage: ")[1].split("\n")[0], description=__doc__.split("\n")[0])
+def main(documentation, tool, choices, write, kept=()):
+    """The command of a tool that writes cases: writes them, or with --check names the files that are not as they would be."""
+    parser = argparse.ArgumentParser(usage=documentation.split("usage: ")[1].split("\n")[0], description=documentation.split("\n")[0])
     parser.add_argument("--check", action="store_true")
     parser.add_argument("--all", action="store_true")
-    parser.add_argument("--words", type=lines_in)
-    parser.add_argument("--scripts", type=lines_in)
+    for choice in choices:
+        parser.add_argument(choice, type=lines_in)
     parser.add_argument("--per", type=int, default=490)
     parser.add_argument("out", type=Path)
     options = parser.parse_args()
     if options.check:
-        found = stale(options.out, options)
+        found = stale(options.out, options, write, kept)
         for path in found:
-            print(f"{options.out.parent / path} is not what tools/cases.py writes")
+            print(f"{options.out.parent / path} is not what {tool} writes")
         sys.exit(1 if found else 0)
-    for line in write_all(options.out, options):
+    for line in write(options.out, options):
         print(line)
 
 
 if __name__ == "__main__":
-    main()
+    main(__doc__, TOOL, ("--words", "--scripts"), write_all, kept=(KNOWN,))

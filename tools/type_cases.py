@@ -14,14 +14,11 @@ there are removed. OUT.antt names them. With --check nothing is written: the fil
 that are not as they would be are named, and the status is 1 where there are some.
 """
 
-import argparse
-import sys
-import tempfile
 from collections import Counter
-from pathlib import Path
 
 import cases
 
+TOOL = "tools/type_cases.py"
 TYPES = "Rattle.cd_types.specs"
 MEANING = "Rattle.cd_meaning.specs"
 LEAST = 3
@@ -101,53 +98,14 @@ def selection(read, groups):
 def write_all(out, options):
     """Writes the modules and their index, and tells what was chosen."""
     out.mkdir(parents=True, exist_ok=True)
-    for old in out.glob("Types[0-9]*.antt"):
-        old.unlink()
     read = cases.read_cases("types.jsonl")
     groups = {line: lemmas(line, case) for line, case in read.items()}
     chosen = options.lines if options.lines is not None else list(groups) if options.all else selection(read, groups)
-    modules = [[]]
-    for line in chosen:
-        if modules[-1] and len(modules[-1]) + len(groups[line]) > options.per - 15:
-            modules.append([])
-        modules[-1] += groups[line]
-    header = "-- Cases of tools/cases/types.jsonl, written by tools/type_cases.py: the number in a name is the line of the case."
-    named = []
-    for number, lines in enumerate([lines for lines in modules if lines], 1):
-        text = [header, *used_imports(lines), "", *lines]
-        (out / f"Types{number}.antt").write_text("\n".join(text).rstrip() + "\n", encoding="utf-8")
-        named.append(f"Types{number}")
-    index = ["-- Modules of cases, written by tools/type_cases.py.", *[f"pub mod {name}" for name in sorted(named)]]
-    Path(f"{out}.antt").write_text("\n".join(index) + "\n", encoding="utf-8")
+    names = cases.write_modules(out, TOOL, "Types", [groups[line] for line in chosen], options.per, used_imports)
+    cases.write_index(out, TOOL, names)
     kinds = Counter(read[line].get("name", "typed") for line in chosen)
     return [f"{len(chosen)} of {len(read)} cases", *[f"{name}: {count}" for name, count in sorted(kinds.items())]]
 
 
-def stale(out, options):
-    """The files that are not what would be written."""
-    with tempfile.TemporaryDirectory() as folder:
-        write_all(Path(folder) / out.name, options)
-        files = {path.relative_to(folder): path.read_bytes() for path in Path(folder).rglob("*.antt")}
-    other = {path.relative_to(out.parent) for path in out.glob("*.antt")} - set(files)
-    return sorted([path for path, text in files.items() if not (out.parent / path).exists() or (out.parent / path).read_bytes() != text] + list(other))
-
-
-def main():
-    parser = argparse.ArgumentParser(usage=__doc__.split("usage: ")[1].split("\n")[0], description=__doc__.split("\n")[0])
-    parser.add_argument("--check", action="store_true")
-    parser.add_argument("--all", action="store_true")
-    parser.add_argument("--lines", type=cases.lines_in)
-    parser.add_argument("--per", type=int, default=490)
-    parser.add_argument("out", type=Path)
-    options = parser.parse_args()
-    if options.check:
-        found = stale(options.out, options)
-        for path in found:
-            print(f"{options.out.parent / path} is not what tools/type_cases.py writes")
-        sys.exit(1 if found else 0)
-    for line in write_all(options.out, options):
-        print(line)
-
-
 if __name__ == "__main__":
-    main()
+    cases.main(__doc__, TOOL, ("--lines",), write_all)
