@@ -3,10 +3,12 @@ pub mod Cut
 pub mod Follow
 pub mod Lawful
 pub mod Moves
+pub mod Opens
 pub mod Restamp
 pub mod Rising
 pub mod Runs
 pub mod Stamps
 pub mod TakeForm
 pub mod Weaves
+pub mod WholeFiles
 pub mod Zips

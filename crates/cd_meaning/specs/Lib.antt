@@ -8,6 +8,7 @@ pub mod Lawful
 pub mod LawfulTrees
 pub mod Laws
 pub mod Meaning
+pub mod Opens
 pub mod PieceWords
 pub mod Pipes
 pub mod Places
@@ -19,6 +20,7 @@ pub mod Rest
 pub mod Rows
 pub mod Run
 pub mod Scan
+pub mod Scoped
 pub mod Scripts
 pub mod Seals
 pub mod Sections

@@ -1,5 +1,5 @@
 -- What a script does at each of its sites, and what that says of where effects go and of what is seen.
-use Rattle.std.specs.Prelude.{ℕ, zero, suc, ◌==◌, nat_le, if◌then◌else◌, List, [], ◌∷◌, length, take}
+use Rattle.std.specs.Prelude.{ℕ, zero, suc, ◌==◌, nat_le, if◌then◌else◌, List, [], ◌∷◌, length, get_or, take}
 use Rattle.cd_meaning.specs.Stream.{Effect, Open, Put, Close}
 use Rattle.cd_meaning.specs.RunShapes.{AtEnd, TooLong, Told, Seen}
 
@@ -10,6 +10,10 @@ pub data Place : Type 0 where
   Writes : List ℕ → Place
   WritesOutput : Place
   Marks : List ℕ → Place
+
+-- the place of a site of a script with these places; sites count from 1, and site 0 is where results are printed
+abbrev pub place_in : List Place → ℕ → Place
+place_in places site = get_or (WritesOutput ∷ places) site WritesOutput
 
 -- ---- effects by output
 

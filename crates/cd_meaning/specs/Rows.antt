@@ -7,6 +7,7 @@ pub mod Forms
 pub mod Given
 pub mod Laws
 pub mod MoreScripts
+pub mod Opens
 pub mod Pieces
 pub mod Places
 pub mod PlainFusion

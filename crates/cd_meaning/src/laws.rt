@@ -14,13 +14,16 @@ ghost use Rattle.cd_meaning.specs.Further.{Begins, Further, GoesOn};
 ghost use Rattle.cd_meaning.specs.Fusion.{fuse, fuse_asked, fuse_drained, fuse_keep, fuse_return};
 ghost use Rattle.cd_meaning.specs.LawfulTrees.{IsLawfulScript, IsLawfulTree};
 ghost use Rattle.cd_meaning.specs.Laws.{EachStamp, IsRun, IsStamp, Rising, cut};
+ghost use Rattle.cd_meaning.specs.Opens.{ClosesOpen, OpensOnce, closes_of, files_in, openings_at, openings_from, openings_in, opens_of};
 ghost use Rattle.cd_meaning.specs.Pipes.{pipe_meaning};
+ghost use Rattle.cd_meaning.specs.Places.{bytes_at, place_in, told_whole};
 ghost use Rattle.cd_meaning.specs.PlainFusion.{plain_fuse, plain_fuse_asked, plain_fuse_drained, plain_fuse_keep, plain_fuse_return};
 ghost use Rattle.cd_meaning.specs.PlainSplitters.{plain_chunks_of, plain_exact, plain_split};
 ghost use Rattle.cd_meaning.specs.PlainText.{BeginNone, IsUnfinished, bytes_of, plain_text, refused_behind};
 ghost use Rattle.cd_meaning.specs.PlainZips.{plain_merge, plain_zip};
-ghost use Rattle.cd_meaning.specs.Run.{Component, Run, stamp};
-ghost use Rattle.cd_meaning.specs.Scripts.{script_run};
+ghost use Rattle.cd_meaning.specs.Run.{Component, Run, effects, stamp};
+ghost use Rattle.cd_meaning.specs.Scoped.{IsScoped};
+ghost use Rattle.cd_meaning.specs.Scripts.{script_places, script_run, whole_files};
 ghost use Rattle.cd_meaning.specs.Splitters.{chunks_of, exact, split};
 ghost use Rattle.cd_meaning.specs.Stream.{Elem, End, Ended, Flow, Halt, Halted, Item, Value};
 ghost use Rattle.cd_meaning.specs.Text.{utf8, utf8_lenient};
@@ -131,4 +134,28 @@ pub fn plain_utf8()
     ensures bad { (cs bytes : List ℕ) (b : ℕ) (more : List ℕ) (e : End) → all_scalars cs ≡ true → IsUnfinished bytes → BeginNone (bytes ++ b ∷ [])
         → utf8 (bytes_of cs ++ map Elem (bytes ++ b ∷ more)) e
         ≡ refused_behind cs (stamp (length (encode_utf8_all cs) + length bytes + 1) (length (encode_utf8_all cs) + length bytes + 1)) }
+{}
+
+/// Sites are opened once: each site of a lawful script, in which a name is used only while it stands, is opened at most
+/// once, and only where its place has a file, so there are no more openings than such places. It is closed at most once,
+/// and only while it is open. The same of each lawful tree at its own sites.
+pub fn opens_once()
+    ensures once { (script : List Stmt) → IsLawfulScript script → IsScoped script → OpensOnce (script_run script) }
+    ensures own { (script : List Stmt) → IsLawfulScript script → IsScoped script → (seen : Seen) (site : ℕ)
+        → opens_of site (effects (script_run script seen)) ≤ openings_at (place_in (script_places script) site) }
+    ensures few { (script : List Stmt) → IsLawfulScript script → IsScoped script → (seen : Seen)
+        → openings_in (effects (script_run script seen)) ≤ files_in (script_places script) }
+    ensures closed_once { (script : List Stmt) → IsLawfulScript script → IsScoped script → (seen : Seen) (site : ℕ)
+        → closes_of site (effects (script_run script seen)) ≤ 1 }
+    ensures closes { (script : List Stmt) → IsLawfulScript script → IsScoped script → (seen : Seen) (site : ℕ) → ClosesOpen site (script_run script seen) }
+    ensures trees { (p : Pipe) → IsLawfulTree p → (flow : Flow) (first : ℕ) (seen : Seen) (xs : List Item) (e : End) (site : ℕ)
+        → opens_of site (effects ((pipe_meaning p).run flow first seen xs e)) ≤ openings_from site first (pipe_meaning p).places }
+    ensures trees_close { (p : Pipe) → IsLawfulTree p → (flow : Flow) (first : ℕ) (seen : Seen) (xs : List Item) (e : End) (site : ℕ)
+        → ClosesOpen site ((pipe_meaning p).run flow first seen xs e) }
+{}
+
+/// What is seen of whole files is, at each site of a script, the bytes at its place.
+pub fn seen_at_places()
+    ensures { (files : List ℕ → List ℕ) (input : List ℕ) (limit : ℕ) (script : List Stmt) (site : ℕ)
+        → whole_files files input limit script site ≡ told_whole limit (bytes_at files input (place_in (script_places script) site)) }
 {}

@@ -11,7 +11,8 @@ ghost use Rattle.cd_meaning.specs.Scripts.{script_run, standard_output, whole_fi
 ghost use Rattle.cd_meaning.specs.TakeForm.{front_effects, front_ending, take_script};
 
 pub use laws::{
-    equal_words, need_bound, plain_forms, plain_fusion, plain_utf8, prefix_law, weave_associativity,
+    equal_words, need_bound, opens_once, plain_forms, plain_fusion, plain_utf8, prefix_law,
+    seen_at_places, weave_associativity,
 };
 
 /// What `run sourceFile "NAME" | takeE N | stdout;` means, for every name, every N and whatever is seen of the file:

@@ -9,7 +9,7 @@ use Rattle.cd_meaning.specs.Scripts.{with_name}
 use Rattle.cd_types.specs.Conditions.{Fails, fails_where}
 use Rattle.cd_types.specs.Limits.{statement_limit}
 use Rattle.cd_types.specs.Moments.{ask, begin_part, Reached, reach, nothing_reached, AllPass, fails_at}
-use Rattle.cd_types.specs.Scoped.{UsesStanding, IsScoped}
+use Rattle.cd_meaning.specs.Scoped.{UsesStanding, IsScoped}
 use Rattle.cd_types.specs.Statements.{Statement, statement_of, seals_as, closes_as, holds_as, releases_as, is_seal, is_closed, is_key, is_released, statement_fails, statement_site, statement_moments, moments_behind}
 use Rattle.cd_types.specs.Trees.{part}
 use Rattle.cd_types.specs.Typing.{HasType}

@@ -7,7 +7,6 @@ pub mod Limits
 pub mod Moments
 pub mod Parts
 pub mod Rows
-pub mod Scoped
 pub mod Sequences
 pub mod Sites
 pub mod Statements

@@ -10,7 +10,7 @@ ghost use Rattle.cd_types.specs.Chains.{first_type};
 ghost use Rattle.cd_types.specs.Flows.{Flow, bound_of, sort_in};
 ghost use Rattle.cd_types.specs.Limits.{site_limit, statement_limit, total_limit};
 ghost use Rattle.cd_types.specs.Moments.{AllPass, Reached, reached_by};
-ghost use Rattle.cd_types.specs.Scoped.{IsScoped};
+ghost use Rattle.cd_meaning.specs.Scoped.{IsScoped};
 ghost use Rattle.cd_types.specs.Sites.{are_apart};
 ghost use Rattle.cd_types.specs.Statements.{HasPart, bounds_of, script_moments, script_types};
 ghost use Rattle.cd_types.specs.Trees.{part};

@@ -17,16 +17,16 @@ work_at (suc n) p = count (p.run [] Ended)
 abbrev pub work : Rest → ℕ
 work p = work_at p.floor p
 
-count_view : (g : Grade) (r : Run) → count (view g r) ≡ count r
+pub count_view : (g : Grade) (r : Run) → count (view g r) ≡ count r
 count_view g (Then s a r) = ap suc (count_view g r)
 count_view g (Ends s (Done v)) = refl
 count_view g (Ends s (Halts h)) = refl
 
-count_restamp : (f : Stamp → Stamp) (r : Run) → count (restamp f r) ≡ count r
+pub count_restamp : (f : Stamp → Stamp) (r : Run) → count (restamp f r) ≡ count r
 count_restamp f (Then s a r) = ap suc (count_restamp f r)
 count_restamp f (Ends s e) = refl
 
-count_acts : (s : Stamp) (acts : List Act) (r : Run) → count (acts_at s acts r) ≡ length acts + count r
+pub count_acts : (s : Stamp) (acts : List Act) (r : Run) → count (acts_at s acts r) ≡ length acts + count r
 count_acts s [] r = omega arith
 count_acts s (a ∷ acts) r = (let h = count_acts s acts r in omega arith)
 
