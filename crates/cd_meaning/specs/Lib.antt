@@ -4,6 +4,7 @@ pub mod Classes
 pub mod ElementWords
 pub mod Further
 pub mod Fusion
+pub mod Known
 pub mod Lawful
 pub mod LawfulTrees
 pub mod Laws

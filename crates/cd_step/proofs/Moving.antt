@@ -13,7 +13,8 @@ use Rattle.cd_meaning.proofs.Moves.Scans.{moves_after}
 use Rattle.cd_step.specs.declared.protocol.Move.{Move}
 use Rattle.cd_step.specs.declared.protocol.Move.TheVariants.{Emit, Need, Done as Finished, Fault as Faulted}
 use Rattle.cd_step.specs.declared.protocol.Input.TheVariants.{Chunk as Given, End as TheEnd}
-use Rattle.cd_step.specs.Parts.{Chunk, Part, rest, items, rest_items, known, nothing_known, fed, IsOf, Goes, Goes_on, IsGiven, Kept, Had, IsSound, AreApart}
+use Rattle.cd_meaning.specs.Known.{known, nothing_known}
+use Rattle.cd_step.specs.Parts.{Chunk, Part, rest, items, rest_items, fed, IsOf, Goes, Goes_on, IsGiven, Kept, Had, IsSound, AreApart}
 use Rattle.cd_step.specs.Flows.{Same, Says}
 
 -- ---- what is compared by the one grade is compared by the other

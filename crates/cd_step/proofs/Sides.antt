@@ -10,7 +10,8 @@ use Rattle.cd_meaning.specs.RunShapes.{Seen}
 use Rattle.cd_step.specs.declared.protocol.Stand.{Stand}
 use Rattle.cd_step.specs.declared.protocol.Stand.TheVariants.{Over as StandOver}
 use Rattle.cd_step.specs.declared.protocol.Move.TheVariants.{Need}
-use Rattle.cd_step.specs.Parts.{Chunk, At, Fresh, Wait, Gave, Over, Part, rest, items, IsOf, Meets, Agree, joined, Goes, Goes_on, outs_of, IsOutAt, part_at, IsHeld, IsWaiting, nothing_known}
+use Rattle.cd_meaning.specs.Known.{nothing_known}
+use Rattle.cd_step.specs.Parts.{Chunk, At, Fresh, Wait, Gave, Over, Part, rest, items, IsOf, Meets, Agree, joined, Goes, Goes_on, outs_of, IsOutAt, part_at, IsHeld, IsWaiting}
 use Rattle.cd_step.specs.Flows.{Retired, Retires}
 use Rattle.cd_step.proofs.Moving.{needs_seen, moves_by, moves_none}
 use Rattle.cd_step.proofs.Working.{work, goes_work}

@@ -2,7 +2,8 @@
 use Rattle.std.proofs.Common.{◌≡◌, ℕ, ◌+◌, List, length, refl, ap, sym, ◌∙◌}
 use Rattle.cd_meaning.specs.Stream.{Act}
 use Rattle.cd_meaning.proofs.Moves.Work as by
-use Rattle.cd_step.specs.Parts.{Part, Goes_on, rest, nothing_known}
+use Rattle.cd_meaning.specs.Known.{nothing_known}
+use Rattle.cd_step.specs.Parts.{Part, Goes_on, rest}
 
 -- the acts of a part before it waits, or once it was told the end before it ends, where nothing is known of its sites
 abbrev pub work : Part → ℕ

@@ -9,7 +9,8 @@ use Rattle.cd_meaning.specs.Stream.{Sort, Item, Elem, Piece, Stop, Decode, End, 
 use Rattle.cd_meaning.specs.Run.{Component, restamp}
 use Rattle.cd_meaning.specs.Rest.{Rest, Grade, Moves, Asks, Finishes, Stuck}
 use Rattle.cd_meaning.specs.Laws.{Rising, less_by}
-use Rattle.cd_meaning.specs.RunShapes.{Told, Seen, MayGoOn}
+use Rattle.cd_meaning.specs.RunShapes.{Told, Seen}
+use Rattle.cd_meaning.specs.Known.{known}
 use Rattle.cd_meaning.specs.Values.{value_meaning}
 use Rattle.cd_step.specs.declared.protocol.Input.{Input}
 use Rattle.cd_step.specs.declared.protocol.Input.TheVariants.{Start, Chunk as Given, End as TheEnd, Next}
@@ -117,20 +118,6 @@ Agree (Some j) (Some k) = j ≡ k
 abbrev pub joined : Option Kind → Option Kind → Option Kind
 joined None h = h
 joined (Some j) h = Some j
-
--- ---- sites
-
-abbrev pub pick : Bool → Told → Told → Told
-pick true w t = w
-pick false w t = t
-
--- what is to come at each site, where w is to come at site s
-abbrev pub known : ℕ → Told → Seen → Seen
-known s w z t = pick (t == s) w (z t)
-
--- nothing further is known of any site
-abbrev pub nothing_known : Seen
-nothing_known t = record { bytes = []; mark = MayGoOn }
 
 -- ---- parts
 
