@@ -1,13 +1,16 @@
 pub mod Apart
+pub mod DefinedNames
 pub mod FormFacts
 pub mod LawfulParts
 pub mod Limits
+pub mod Numbered
 pub mod Numbers
 pub mod PartFacts
 pub mod Passing
 pub mod ScopedNames
 pub mod ScriptFacts
 pub mod StandingNames
+pub mod SiteOrder
 pub mod Sums
 pub mod Verdicts
 pub mod WordFacts

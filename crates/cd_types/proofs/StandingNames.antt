@@ -37,7 +37,7 @@ or_false false = refl
 any_more : (test : Statement → Bool) (before : List Statement) (s : Statement) → list_any test (before ++ s ∷ []) ≡ (list_any test before || test s)
 any_more test before s = list_any-append test before (s ∷ []) ∙ ap (λ b. list_any test before || b) (or_false (test s))
 
-same_way : (a b : List ℕ) → bytes_eq a b ≡ bytes_eq b a
+pub same_way : (a b : List ℕ) → bytes_eq a b ≡ bytes_eq b a
 same_way a b = by (cases_Bool (bytes_eq a b)) (cases_Bool (bytes_eq b a)) where
   by : (bytes_eq a b ≡ true) ⊎ (bytes_eq a b ≡ false) → (bytes_eq b a ≡ true) ⊎ (bytes_eq b a ≡ false) → bytes_eq a b ≡ bytes_eq b a
   by (inl e) f = e ∙ sym ((bytes_eq-Decides b a).1 (sym ((bytes_eq-Decides a b).0 e)))
@@ -103,7 +103,7 @@ turned : (name other : List ℕ) (c x : Bool) → (if bytes_eq name other then c
 turned name other c x = ap (λ b. if b then c else x) (same_way name other)
 
 -- what fails where a statement begins
-abbrev begun : Reached → List Statement → Statement → Fails
+abbrev pub begun : Reached → List Statement → Statement → Fails
 begun r before s =
     let number = length before + 1 in
     fails_at (reach r (ask number 0 (fails_where TooMany (nat_lt statement_limit number)))) (begin_part number 0 (statement_fails before s) (statement_site s))

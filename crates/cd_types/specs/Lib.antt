@@ -5,6 +5,7 @@ pub mod Flows
 pub mod Forms
 pub mod Limits
 pub mod Moments
+pub mod Numbering
 pub mod Parts
 pub mod Rows
 pub mod Sequences

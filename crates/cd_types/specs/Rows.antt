@@ -3,6 +3,7 @@ pub mod Bounds
 pub mod Examples
 pub mod Forms
 pub mod Names
+pub mod Numbering
 pub mod Numbers
 pub mod PartTypes
 pub mod Rests

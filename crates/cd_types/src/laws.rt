@@ -1,18 +1,19 @@
 // Laws of the typing. Each is the contract of a function that does nothing.
-ghost use Rattle.std.specs.Prelude.{◌≡◌, ◌≤◌, ℕ, List, [], IsTrue, length, ◌⊎◌};
+ghost use Rattle.std.specs.Prelude.{◌≡◌, ◌≤◌, ℕ, List, [], ◌∷◌, ◌+◌, ◌++◌, map, IsTrue, Some, is_some, length, slice_get, option_and_then, ◌⊎◌};
 ghost use Rattle.cd_elem.specs.declared.script.Pipe.{Pipe};
 ghost use Rattle.cd_elem.specs.declared.script.Stmt.{Stmt};
 ghost use Rattle.cd_meaning.specs.LawfulTrees.{IsLawfulScript};
 ghost use Rattle.cd_meaning.specs.Pipes.{pipe_meaning};
+ghost use Rattle.cd_meaning.specs.Scoped.{IsScoped};
 ghost use Rattle.cd_meaning.specs.Scripts.{script_places};
 ghost use Rattle.cd_types.specs.declared.refusal.Refusal.{Refusal};
 ghost use Rattle.cd_types.specs.Chains.{first_type};
 ghost use Rattle.cd_types.specs.Flows.{Flow, bound_of, sort_in};
 ghost use Rattle.cd_types.specs.Limits.{site_limit, statement_limit, total_limit};
-ghost use Rattle.cd_types.specs.Moments.{AllPass, Reached, reached_by};
-ghost use Rattle.cd_meaning.specs.Scoped.{IsScoped};
+ghost use Rattle.cd_types.specs.Moments.{AllPass, Moment, Reached, reached_by};
+ghost use Rattle.cd_types.specs.Numbering.{ScriptSite, held_in, key_named, key_number, moment_sites, numbered, script_sites, seal_named, seal_number, sealed_in, site_number};
 ghost use Rattle.cd_types.specs.Sites.{are_apart};
-ghost use Rattle.cd_types.specs.Statements.{HasPart, bounds_of, script_moments, script_types};
+ghost use Rattle.cd_types.specs.Statements.{HasPart, bounds_of, key_names, script_moments, script_types, seal_names, statement_of};
 ghost use Rattle.cd_types.specs.Trees.{part};
 ghost use Rattle.cd_types.specs.Typing.{HasType, IsRefused, Passed, Refused, judged};
 
@@ -56,4 +57,28 @@ pub fn agreement()
     ensures parts { (p : Pipe) (f : Flow) → length ((part p).types f) ≡ (part p).size }
     ensures own_type { (p : Pipe) (f : Flow) → first_type ((part p).types f) ≡ (part p).type f }
     ensures gives { (p : Pipe) (r : Reached) (s n : ℕ) (f : Flow) → AllPass r ((part p).moments s n f) → (pipe_meaning p).gives (sort_in f) ≡ sort_in ((part p).type f).to }
+{}
+
+/// What the numbers of sites, seals and keys say.
+///
+/// The sites of a script with where they stand are its places, in their order, and those of moments are those of the first
+/// ones and then those of the others. No two stand at one part: the number there is the number of each. The names of seals and keys are those of its statements, no more than there are
+/// statements. In a script that has a type each seal that a statement uses has a number, and so has each key.
+pub fn numbering()
+    ensures places { (script : List Stmt) → map (λ (site : ScriptSite). site.place) (script_sites script) ≡ script_places script }
+    ensures further { (ms ns : List Moment) → moment_sites (ms ++ ns) ≡ moment_sites ms ++ moment_sites ns }
+    ensures own_number { (script : List Stmt) (i : ℕ) (site : ScriptSite) → slice_get (script_sites script) i ≡ Some site → site_number script site.statement site.part ≡ Some (i + 1) }
+    ensures seals { (script : List Stmt) → sealed_in (map statement_of script) ≡ seal_names script }
+    ensures keys { (script : List Stmt) → held_in (map statement_of script) ≡ key_names script }
+    ensures few_seals { (script : List Stmt) → length (seal_names script) ≤ length script }
+    ensures few_keys { (script : List Stmt) → length (key_names script) ≤ length script }
+    ensures known_seals { (script : List Stmt) (s : ℕ) → HasType script → is_some (seal_number script s) ≡ is_some (option_and_then seal_named (numbered script s)) }
+    ensures known_keys { (script : List Stmt) (s : ℕ) → HasType script → is_some (key_number script s) ≡ is_some (option_and_then key_named (numbered script s)) }
+{}
+
+/// In a script that has a type each name is defined once: the number of a seal, and of a key, is how many were defined
+/// before it.
+pub fn definitions()
+    ensures seals { (before more : List Stmt) (name : List ℕ) (p : Pipe) → HasType (before ++ Stmt.Seal name p ∷ more) → seal_number (before ++ Stmt.Seal name p ∷ more) (length before + 1) ≡ Some (length (seal_names before)) }
+    ensures keys { (before more : List Stmt) (name file : List ℕ) → HasType (before ++ Stmt.Hold name file ∷ more) → key_number (before ++ Stmt.Hold name file ∷ more) (length before + 1) ≡ Some (length (key_names before)) }
 {}

@@ -1,5 +1,5 @@
 -- The parts of trees that rows write, and what is judged of their scripts.
-use Rattle.std.specs.Prelude.{◌≡◌, refl, ℕ, List, [], ◌∷◌, length, map}
+use Rattle.std.specs.Prelude.{◌≡◌, refl, ℕ, ◌+◌, List, [], ◌∷◌, length, map, position, Option, option_map}
 use Rattle.std.proofs.Common.{◌∙◌, ap, sym}
 use Rattle.cd_elem.specs.declared.word.Word.{Word}
 use Rattle.cd_elem.specs.declared.script.Join.{Join}
@@ -12,6 +12,7 @@ use Rattle.cd_types.specs.Parts.{Part, word_part}
 use Rattle.cd_types.specs.Sequences.{sequence_part}
 use Rattle.cd_types.specs.Chains.{chain_part}
 use Rattle.cd_types.specs.Forms.{piece_section, element_section, mark_part, tee_part, zip_source_part, zip_sink_part, zip_conduit_part}
+use Rattle.cd_types.specs.Numbering.{moment_sites, stands_at, site_number, part_at, part_of_types, seal_number, key_number}
 use Rattle.cd_types.specs.Trees.{part, part_step}
 use Rattle.cd_meaning.specs.Places.{Place}
 use Rattle.cd_types.specs.declared.refusal.RefusalKind.{RefusalKind}
@@ -168,3 +169,26 @@ names ss = counted (length (seal_names (map stmt_of ss))) (length (key_names (ma
 pub names_are : (ss : List Sentence) → names ss ≡ counted (length (seal_names (map stmt_of ss))) (length (key_names (map stmt_of ss)))
 unfolding names
 names_are ss = refl
+
+-- the number of the site that is this part of this statement
+unfoldable pub site_at : List Sentence → ℕ → ℕ → Option ℕ
+site_at ss s n = site_number (map stmt_of ss) s n
+
+pub site_at_is : (ss : List Sentence) (s n : ℕ) → site_at ss s n ≡ option_map (λ place. place + 1) (position (stands_at s n) (moment_sites (moments_behind [] (map sentence_statement ss))))
+unfolding site_at
+site_at_is ss s n = ap (λ ms. option_map (λ place. place + 1) (position (stands_at s n) (moment_sites (moments_behind [] ms)))) (are_statements ss)
+
+-- the type of this part
+unfoldable pub type_at : List Sentence → ℕ → ℕ → Option PartType
+type_at ss s n = part_at (map stmt_of ss) s n
+
+pub type_at_is : (ss : List Sentence) (s n : ℕ) → type_at ss s n ≡ part_of_types (types_behind [] (map sentence_statement ss)) s n
+unfolding type_at
+type_at_is ss s n = ap (λ ms. part_of_types (types_behind [] ms) s n) (are_statements ss)
+
+-- the numbers of the seal and of the key of this statement
+abbrev pub seal_at : List Sentence → ℕ → Option ℕ
+seal_at ss s = seal_number (map stmt_of ss) s
+
+abbrev pub key_at : List Sentence → ℕ → Option ℕ
+key_at ss s = key_number (map stmt_of ss) s
