@@ -1,0 +1,2 @@
+pub mod ChainTypes
+pub mod Nodes
