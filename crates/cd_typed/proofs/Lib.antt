@@ -1,0 +1,3 @@
+pub mod KnownNames
+pub mod Positions
+pub mod Texts
