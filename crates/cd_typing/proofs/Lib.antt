@@ -1,0 +1,12 @@
+pub mod BothParts
+pub mod ChainSteps
+pub mod MarkSteps
+pub mod PartSteps
+pub mod ScriptSteps
+pub mod SequenceSteps
+pub mod StatementSteps
+pub mod Steps
+pub mod Tables
+pub mod TwoParts
+pub mod WordSteps
+pub mod ZipParts
