@@ -1,10 +1,8 @@
 //! The program `conduit`.
 #![tactic(auto)]
 
-mod host;
-
 use cd_cli::conduit_main;
-use host::HostWorld;
+use cd_host::HostWorld;
 use std::io::ErrorKind;
 use std::process::ExitCode;
 use std::rt::Files;

@@ -4,8 +4,15 @@
 #[cfg(test)]
 mod back;
 #[cfg(test)]
+mod host;
+mod marks;
+#[cfg(test)]
+mod scope;
+#[cfg(test)]
 mod tokens;
 #[cfg(test)]
 mod values;
 #[cfg(test)]
 mod world;
+
+pub use marks::two_marks;
