@@ -2,8 +2,7 @@
 //
 // A case has the words, a line each, by how many bytes each read and write is cut, and then the files, each with what
 // it holds and which of its calls fail.
-use crate::error::CaseError;
-use crate::notation::{field, number, push_text};
+use case_notation::{CaseError, field, number, push_text};
 use cd_cli::{Outcome, conduit_main};
 use cd_elem::{Items, Literal, NumberList};
 use cd_world::{Event, Fail, FailList, MemoryFile, MemoryFiles, MemoryWorld};

@@ -2,14 +2,10 @@
 #![tactic(auto)]
 
 mod commands;
-mod driver;
-mod error;
-mod notation;
 mod texts;
-mod word_runs;
 
 use anyhow::Context;
-use error::CaseError;
+use case_notation::CaseError;
 use std::alloc::Global;
 use std::fs;
 use std::rt::Files;
@@ -35,7 +31,7 @@ impl Table {
     fn answer(self, alloc: Global, case: &str, lines: &mut String) -> Result<(), CaseError> {
         match self {
             Table::Texts => texts::answer(alloc, case, lines),
-            Table::Words => word_runs::answer(alloc, case, lines),
+            Table::Words => case_words::answer(alloc, case, lines),
             Table::Commands => commands::answer(alloc, case, lines),
         }
     }

@@ -1,8 +1,7 @@
 // Texts as scripts: each is refused, or has a canonical text, which has itself.
 ghost use Rattle.std.specs.Prelude.{◌≤◌, length};
 
-use crate::error::CaseError;
-use crate::notation::{field, push_text, text_within};
+use case_notation::{CaseError, text_of, text_within};
 use cd_elem::LimitKind;
 use cd_script::{ScriptRefusal, TEXT_LIMIT, parse, print};
 use std::alloc::Global;
@@ -66,20 +65,6 @@ fn write_script(
         lines.push_str("= which is not its own canonical text\n")?;
     }
     Ok(())
-}
-
-fn push_case(bytes: &mut Vec<u8>, case: &str) -> Result<(), CaseError> {
-    for line in case.lines() {
-        let (key, value) = field(line);
-        push_text(bytes, key, value)?;
-    }
-    Ok(())
-}
-
-/// The text of a case.
-fn text_of(alloc: Global, case: &str) -> Result<Vec<u8>, CaseError> {
-    let mut bytes = Vec::new(alloc);
-    push_case(&mut bytes, case).and(Ok(bytes))
 }
 
 fn write_answer(

@@ -4,8 +4,7 @@ ghost use Rattle.cd_step.specs.Parts.{Answers, IsChunk, Wait};
 ghost use Rattle.cd_elemwise.specs.Carried.{ClassFits, HasType, kind_of};
 ghost use Rattle.cd_elemwise.specs.Stages.{seen_stage, stage_fits};
 
-use crate::error::CaseError;
-use crate::notation::{push_number, write_numbers};
+use case_notation::{CaseError, push_number, write_numbers};
 use cd_elem::{
     ByteList, ByteMap, CHUNK_LIMIT, CharList, Chunk, Class, ClassName, ElemWord, Items, NumberList,
     Sort, Value,

@@ -31,6 +31,20 @@ pub fn push_text(bytes: &mut Vec<u8>, key: &str, value: &str) -> Result<(), Case
     Ok(())
 }
 
+fn push_case(bytes: &mut Vec<u8>, case: &str) -> Result<(), CaseError> {
+    for line in case.lines() {
+        let (key, value) = field(line);
+        push_text(bytes, key, value)?;
+    }
+    Ok(())
+}
+
+/// The text of a case that is all of one text.
+pub fn text_of(alloc: Global, case: &str) -> Result<Vec<u8>, CaseError> {
+    let mut bytes = Vec::new(alloc);
+    push_case(&mut bytes, case).and(Ok(bytes))
+}
+
 fn push_parsed(list: &mut NumberList, text: &str) -> Result<(), CaseError> {
     for part in text.split(' ') {
         if !part.is_empty() {

@@ -3,8 +3,7 @@
 // A case has a word, an input with the numbers of its elements, and whether the input ends there. Chunks and pieces
 // that are given stand each behind a slash.
 use crate::driver::{Run, run_word};
-use crate::error::CaseError;
-use crate::notation::{field, numbers, push_number, text_within, write_numbers};
+use case_notation::{CaseError, field, numbers, push_number, text_within, write_numbers};
 use cd_elem::{CHUNK_LIMIT, ElemWord, Items, NumberList, Pipe, Script, Sort, Stmt, Word};
 use cd_script::{TEXT_LIMIT, parse};
 use std::alloc::Global;
