@@ -3,7 +3,7 @@
 
 usage: tools/cases_data.py [--check]
 
-Writes crates/cases/data/texts, words and commands, and crates/cases/stdout, where each case stands again with the
+Writes crates/cases/data/texts, words, types and commands, and crates/cases/stdout, where each case stands again with the
 answers that are expected. With --check nothing is written: the files that are not as they would be are named, and the
 status is 1 where there are some.
 """
@@ -139,6 +139,33 @@ def word_cases():
         yield {"sizes": outside_word, "cuts": all_cuts, "moves": all_moves}[case["by"]](case)
 
 
+# ---- types
+
+# the kinds of refusals, in the order of their numbers from 1
+KINDS = [
+    "KindMismatch", "SeesChunks", "NeedsElements", "DropsRest", "NotInvertible", "NameTwice", "Seal", "BoundTooLarge",
+    "ResultLost", "TooMany", "OpenEnd", "Key",
+]
+
+
+def refusal_line(number, name, statement, part):
+    return f"conduit: refused {number} {name} at statement {statement}, part {part}"
+
+
+def type_answers(case):
+    """What `check` says of a script, and its sites, seals and keys."""
+    if "refused" in case:
+        return ["= " + refusal_line(case["refused"], case["name"], case["statement"], case["part"])]
+    sites = [f"= site {use} {name}".rstrip() for use, name in case["sites"]]
+    summary = f"= ok {len(case['tree'])} statements, {len(sites)} sites, bound {case['total']}"
+    return [summary, *sites, f"= {case['seals']} seals, {case['keys']} keys"]
+
+
+def type_cases():
+    for case in rows("types.jsonl"):
+        yield text_lines("script", case["script"]), type_answers(case)
+
+
 # ---- commands
 
 def command_case(title, words, files, answers, cut=0, fails=()):
@@ -153,7 +180,7 @@ def command_case(title, words, files, answers, cut=0, fails=()):
 # The line of each cause that tells no byte, and the front of each that tells one.
 LINES = {
     "Success": None,
-    "Usage": "usage: conduit (run SCRIPT | show SCRIPT)",
+    "Usage": "usage: conduit (run SCRIPT | check SCRIPT | show SCRIPT)",
     "ScriptFault": "the script could not be read",
     "ScriptLimit": "the script is longer than 65536 bytes",
     "NotBuilt": "this form is not built yet",
@@ -166,7 +193,11 @@ LINES = {
 
 
 def line_of(cause):
-    """What standard error gets under a cause, as `Limit { which: Depth, at: 36 }`."""
+    """What standard error gets under a cause, as `Limit { which: Depth, at: 36 }` or `Refused(Refusal { .. })`."""
+    refused = re.fullmatch(r"Refused\(Refusal \{ kind: (\w+), statement: (\d+), part: (\d+) \}\)", cause)
+    if refused:
+        kind, statement, part = refused.groups()
+        return refusal_line(KINDS.index(kind) + 1, kind, statement, part) + "\n"
     name, which, at = re.fullmatch(r"(\w+)(?: \{ (?:which: (\w+), )?at: (\d+) \})?", cause).groups()
     if LINES[name] is None:
         return ""
@@ -206,7 +237,7 @@ def command_cases():
 def files():
     """Each file and what it holds."""
     told = []
-    for name, cases in (("texts", text_cases()), ("words", word_cases()), ("commands", command_cases())):
+    for name, cases in (("texts", text_cases()), ("words", word_cases()), ("types", type_cases()), ("commands", command_cases())):
         cases = list(cases)
         yield PROGRAM / "data" / name, "".join("\n".join(lines) + "\n\n" for lines, _ in cases)[:-1]
         told += ["\n".join(lines + answers) + "\n\n" for lines, answers in cases]

@@ -15,6 +15,7 @@ use std::rt::Files;
 enum Table {
     Texts,
     Words,
+    Types,
     Commands,
 }
 
@@ -23,6 +24,7 @@ impl Table {
         match self {
             Table::Texts => "texts",
             Table::Words => "words",
+            Table::Types => "types",
             Table::Commands => "commands",
         }
     }
@@ -32,6 +34,7 @@ impl Table {
         match self {
             Table::Texts => texts::answer(alloc, case, lines),
             Table::Words => case_words::answer(alloc, case, lines),
+            Table::Types => case_types::answer(alloc, case, lines),
             Table::Commands => commands::answer(alloc, case, lines),
         }
     }
@@ -57,5 +60,6 @@ fn print_table<R: Print + Files + Alloc<A = Global>>(rt: &R, table: Table) -> an
 fn main(rt: HostRuntime) -> anyhow::Result<()> {
     print_table(&rt, Table::Texts)?;
     print_table(&rt, Table::Words)?;
+    print_table(&rt, Table::Types)?;
     print_table(&rt, Table::Commands)
 }

@@ -15,21 +15,26 @@ use Rattle.cd_meaning.specs.Stream.{Value, Done}
 use Rattle.cd_meaning.specs.RunShapes.{Mark, AtEnd}
 use Rattle.cd_meaning.specs.TakeForm.{front_ending, ending_of, take_script}
 use Rattle.cd_meaning.proofs.TakeForm.{form_ending, form_puts, whole_puts, whole_ends}
+use Rattle.cd_types.specs.declared.refusal.Refusal.{Refusal}
+use Rattle.cd_types.specs.Typing.{HasType, IsRefused as IsFirst}
+use Rattle.cd_types.proofs.Verdicts.{never_both_so}
+use Rattle.cd_report.specs.CheckText.{check_text}
 use Rattle.cd_report.specs.declared.cause.Cause.{Cause}
-use Rattle.cd_report.specs.declared.cause.Cause.TheVariants.{Success, NotBuilt, OutsideFault, NoMemory as WithoutMemory}
+use Rattle.cd_report.specs.declared.cause.Cause.TheVariants.{Success, Refused, NotBuilt, OutsideFault, NoMemory as WithoutMemory}
 use Rattle.cd_cli.specs.Cause.{cause_of, script_cause, words_cause, HasOrigin}
 use Rattle.cd_cli.specs.Form.{NoForm}
 use Rattle.cd_cli.specs.Judge.{read_limit, IsScriptOf, HasTree, HasNone, IsRefused, too_long, no_utf8, syntax, limit}
 use Rattle.cd_cli.specs.declared.arguments.Command.{Command}
-use Rattle.cd_cli.specs.declared.arguments.Command.TheVariants.{Run, Show}
+use Rattle.cd_cli.specs.declared.arguments.Command.TheVariants.{Run, Check, Show}
 use Rattle.cd_cli.specs.declared.arguments.WordsRefusal.{WordsRefusal}
 use Rattle.cd_cli.specs.declared.arguments.WordsRefusal.TheVariants as words_refusal
 use Rattle.cd_cli.specs.Arguments.{NamesScript, IsCommand, AreArguments, script_of}
-use Rattle.cd_cli.specs.Command.{IsRunCause, IsUnread, Runs, RunsTree, no_form, of_form, Does, Judges, no_memory, no_script, of_tree, Logs, ReadsAndJudges, unread, read, Calls, other_words, of_command, Called, Puts, SendsTree, SendsFor, Sends, SendsScript, AnswersCommand, Sent, IsTaken}
+use Rattle.cd_cli.specs.Command.{IsRunCause, IsUnread, Runs, RunsTree, no_form, of_form, Does, Judges, no_memory, no_script, of_tree, Logs, FindsTypes, untyped, refused, has_type, ReadsAndJudges, unread, read, Calls, other_words, of_command, Called, Puts, SendsTree, SendsText, SendsFor, Sends, SendsScript, AnswersCommand, Sent, IsTaken}
 use Rattle.cd_cli.specs.Script.{ReadsWhole, TriesRead, ReadsFront, LogsRead}
 use Rattle.cd_cli.specs.Seen.{seen_of}
 use Rattle.cd_cli.specs.Take.{Takes, LogsTake}
 use Rattle.cd_cli.proofs.RestSteps.{keeps_on, contents_kept}
+use Rattle.cd_cli.proofs.FormTypes.{form_has_type}
 use Rattle.cd_cli.proofs.WriteSteps.{IsUnfailed, no_memory_unfailed}
 
 -- ---- the meaning of a run
@@ -90,6 +95,28 @@ module _ (tree : List Stmt) where
       answer = of_form name count takes.sent is ran (puts_of_file name count result cause f f' takes on_success);
     }
 
+-- ---- the types of a tree
+
+module _ {X : Type 0} (DoesSo : Cause → List X → Type 0) (tree : List Stmt) where
+  finds_none : (cause : Cause) → (cause ≡ WithoutMemory) ⊎ ((refusal : Refusal) × IsFirst tree refusal × (cause ≡ Refused refusal)) → FindsTypes DoesSo tree cause []
+  finds_none cause (inl none) = untyped none
+  finds_none cause (inr (refusal, first, is)) = refused refusal first is
+
+module _ (tree : List Stmt) where
+  module _ (DoesSo : Cause → List Event → Type 0) where
+    pub typed_logs : (cause : Cause) (l l' : List Event) → HasType tree → Logs DoesSo cause l l' → Logs (FindsTypes DoesSo tree) cause l l'
+    typed_logs cause l l' typed logs = record { calls = logs.calls; log = logs.log; does = has_type logs.calls typed logs.does }
+
+    pub untyped_logs : (cause : Cause) (l : List Event) → (cause ≡ WithoutMemory) ⊎ ((refusal : Refusal) × IsFirst tree refusal × (cause ≡ Refused refusal)) → Logs (FindsTypes DoesSo tree) cause l l
+    untyped_logs cause l none = record { calls = []; log = sym (append-nil l); does = finds_none DoesSo tree cause none }
+
+  module _ (SendsSo : Cause → List ℕ → Type 0) where
+    pub typed_sends : (cause : Cause) (f f' : Files) → HasType tree → Sent (SendsSo cause) f f' → Sent (FindsTypes SendsSo tree cause) f f'
+    typed_sends cause f f' typed sends = record { sent = sends.sent; output = sends.output; rest = sends.rest; answer = has_type sends.sent typed sends.answer }
+
+    pub untyped_sends : (cause : Cause) (f : Files) → (cause ≡ WithoutMemory) ⊎ ((refusal : Refusal) × IsFirst tree refusal × (cause ≡ Refused refusal)) → Sent (FindsTypes SendsSo tree cause) f f
+    untyped_sends cause f none = record { sent = []; output = sym (append-nil f.output); rest = refl; answer = finds_none SendsSo tree cause none }
+
 -- a refused call is the end of a run, and no success
 pub run_cause : (e : WorldError) → IsRunCause (cause_of e)
 run_cause Failed = inr (inl refl)
@@ -138,8 +165,8 @@ still_too_long text cause long none = record { why = why_long cause none.why; no
   why_long : (cause : Cause) → IsRefused (take read_limit text) cause → IsRefused text cause
   why_long _ (too_long h) = too_long long
   why_long _ (no_utf8 at few bad valid) = absurd (omega (arith, front_long, few))
-  why_long _ (syntax at fit refused) = absurd (omega (arith, front_long, fit.few))
-  why_long _ (limit which at fit refused) = absurd (omega (arith, front_long, fit.few))
+  why_long _ (syntax at fit token) = absurd (omega (arith, front_long, fit.few))
+  why_long _ (limit which at fit token) = absurd (omega (arith, front_long, fit.few))
 
 judged_whole : (SendsSo : List Stmt → Cause → List ℕ → Type 0) (text : List ℕ) (cause : Cause) (sent : List ℕ) → Sends SendsSo (take read_limit text) cause sent → Sends SendsSo text cause sent
 judged_whole SendsSo text cause sent sends = by_length (cases_lt text_limit (length text)) sends where
@@ -212,13 +239,24 @@ module _ (before now : ℕ) (cause : Cause) (origin : HasOrigin before now cause
   form_completes contents tree name count _ is (no_form none built) = absurd (none name count (sym is))
   form_completes contents tree name count _ is (of_form other_name other_count sent form ran puts) = run_completes ran
 
+  typed_completes : (tree : List Stmt) (DoesSo : Cause → List ℕ → Type 0) (sent : List ℕ) → HasType tree → ((s : List ℕ) → DoesSo cause s → (cause ≡ Success) ⊎ (cause ≡ WithoutMemory))
+      → FindsTypes DoesSo tree cause sent → (cause ≡ Success) ⊎ (cause ≡ WithoutMemory)
+  typed_completes tree DoesSo _ typed completes (untyped none) = inr none
+  typed_completes tree DoesSo _ typed completes (refused refusal first is) = absurd (never_both_so tree refusal typed first)
+  typed_completes tree DoesSo _ typed completes (has_type sent same does) = completes sent does
+
   tree_completes : (command : Command) (contents : List ℕ → List ℕ) (text : List ℕ) (tree : List Stmt) (sent : List ℕ) → IsTaken command text → HasTree text tree → SendsFor command contents tree cause sent
       → (cause ≡ Success) ⊎ (cause ≡ WithoutMemory)
-  tree_completes (Run script) contents text tree sent (name, count, form) has sends = form_completes contents tree name count sent (has.only (take_script name count) form) sends
+  tree_completes (Run script) contents text tree sent (name, count, form) has sends =
+      let is : take_script name count ≡ tree = has.only (take_script name count) form in
+      typed_completes tree (SendsTree contents tree) sent (subst HasType is (form_has_type name count)) (λ s. form_completes contents tree name count s is) sends
+  tree_completes (Check script) contents text tree sent (other, typed, is) has sends =
+      typed_completes tree (SendsText (check_text tree)) sent (subst HasType (has.only other is) typed) (λ s sent_so. run_completes sent_so.ran) sends
   tree_completes (Show script) contents text tree sent taken has sends = run_completes sends.ran
 
   has_tree : (command : Command) (text : List ℕ) → IsTaken command text → ((tree : List Stmt) → IsScriptOf text tree → ⊥) → ⊥
   has_tree (Run script) text (name, count, form) none = none (take_script name count) form
+  has_tree (Check script) text (tree, typed, is) none = none tree is
   has_tree (Show script) text (tree, is) none = none tree is
 
   text_completes : (command : Command) (contents : List ℕ → List ℕ) (text sent : List ℕ) → IsTaken command text → Sends (SendsFor command contents) text cause sent → (cause ≡ Success) ⊎ (cause ≡ WithoutMemory)
@@ -236,6 +274,12 @@ module _ (before now : ℕ) (cause : Cause) (origin : HasOrigin before now cause
 run_is_not_show : codes "run" ≡ codes "show" → ⊥
 run_is_not_show is = absurd cc
 
+run_is_not_check : codes "run" ≡ codes "check" → ⊥
+run_is_not_check is = absurd cc
+
+check_is_not_show : codes "check" ≡ codes "show" → ⊥
+check_is_not_show is = absurd cc
+
 script_is : (words : List (List ℕ)) (u v a b : List ℕ) → NamesScript words u a → NamesScript words v b → a ≡ b
 script_is words u v a b first second = ap (λ (ws : List (List ℕ)). get_or ws 1 []) (sym first.words_are ∙ second.words_are)
 
@@ -246,6 +290,11 @@ verb_is words u v a b first second = ap (λ (ws : List (List ℕ)). get_or ws 0 
 pub same_command : (words : List (List ℕ)) (c d : Command) → IsCommand words c → IsCommand words d → c ≡ d
 same_command words (Run a) (Run b) first second = ap Run (script_is words _ _ a b first second)
 same_command words (Run a) (Show b) first second = absurd (run_is_not_show (verb_is words _ _ a b first second))
+same_command words (Run a) (Check b) first second = absurd (run_is_not_check (verb_is words _ _ a b first second))
+same_command words (Check a) (Run b) first second = absurd (run_is_not_check (sym (verb_is words _ _ a b first second)))
+same_command words (Check a) (Check b) first second = ap Check (script_is words _ _ a b first second)
+same_command words (Check a) (Show b) first second = absurd (check_is_not_show (verb_is words _ _ a b first second))
+same_command words (Show a) (Check b) first second = absurd (check_is_not_show (sym (verb_is words _ _ a b first second)))
 same_command words (Show a) (Run b) first second = absurd (run_is_not_show (sym (verb_is words _ _ a b first second)))
 same_command words (Show a) (Show b) first second = ap Show (script_is words _ _ a b first second)
 

@@ -1,5 +1,6 @@
 mod CommandSteps
 mod ByteFronts
+mod FormTypes
 mod JudgeSteps
 mod PassSteps
 mod ReportSteps

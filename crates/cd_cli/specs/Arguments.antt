@@ -1,7 +1,7 @@
 -- The words of the command line.
 use Rattle.std.specs.Prelude.{◌≡◌, ◌≢◌, ℕ, List, [], ◌∷◌, codes, Result, Ok, Err}
 use Rattle.cd_cli.specs.declared.arguments.Command.{Command}
-use Rattle.cd_cli.specs.declared.arguments.Command.TheVariants.{Run, Show}
+use Rattle.cd_cli.specs.declared.arguments.Command.TheVariants.{Run, Check, Show}
 use Rattle.cd_cli.specs.declared.arguments.WordsRefusal.{WordsRefusal}
 use Rattle.cd_cli.specs.declared.arguments.WordsRefusal.TheVariants.{Usage, NoMemory}
 
@@ -21,13 +21,15 @@ pub record NamesScript (words : List (List ℕ)) (verb script : List ℕ) : Type
 
 abbrev pub verb : Command → List ℕ
 verb (Run script) = codes "run"
+verb (Check script) = codes "check"
 verb (Show script) = codes "show"
 
 abbrev pub script_of : Command → List ℕ
 script_of (Run script) = script
+script_of (Check script) = script
 script_of (Show script) = script
 
--- the words of a command: `run SCRIPT` or `show SCRIPT`
+-- the words of a command: `run SCRIPT`, `check SCRIPT` or `show SCRIPT`
 abbrev pub IsCommand : List (List ℕ) → Command → Type 0
 IsCommand words command = NamesScript words (verb command) (script_of command)
 

@@ -6,6 +6,8 @@ use Rattle.cd_world.specs.declared.world.WorldError.{WorldError}
 use Rattle.cd_world.specs.declared.world.WorldError.TheVariants.{Failed, NoMemory}
 use Rattle.cd_script.specs.declared.refusal.ScriptRefusal.{ScriptRefusal}
 use Rattle.cd_script.specs.declared.refusal.ScriptRefusal.TheVariants as refusal
+use Rattle.cd_typing.specs.declared.refusal.CheckRefusal.{CheckRefusal}
+use Rattle.cd_typing.specs.declared.refusal.CheckRefusal.TheVariants as check
 use Rattle.cd_report.specs.declared.cause.Cause.{Cause}
 use Rattle.cd_cli.specs.declared.arguments.WordsRefusal.{WordsRefusal}
 use Rattle.cd_cli.specs.declared.arguments.WordsRefusal.TheVariants as words
@@ -31,6 +33,11 @@ abbrev pub cause_of_refusal : ScriptRefusal → Cause
 cause_of_refusal (refusal.Syntax at) = cause.Syntax at
 cause_of_refusal (refusal.Limit which at) = cause.Limit which at
 cause_of_refusal refusal.NoMemory = cause.NoMemory
+
+-- the cause that a script without types is
+abbrev pub cause_of_check : CheckRefusal → Cause
+cause_of_check (check.Refused first) = cause.Refused first
+cause_of_check check.NoMemory = cause.NoMemory
 
 -- A fault is the cause where the count of failed calls rose, and with every other cause it stays.
 pub record HasOrigin (before now : ℕ) (given : Cause) : Type 0 where

@@ -1,4 +1,4 @@
--- What the command does: it reads a script and judges it, and then runs it, where it is of the form, or shows it.
+-- What the command does: it reads a script and judges it, and then shows it, or finds its types and says what they are, or runs it, where it is of the form.
 use Rattle.std.specs.Prelude.{◌≡◌, ◌≢◌, ◌≤◌, ◌⊎◌, ℕ, List, [], ◌++◌, All}
 use Rattle.cd_elem.specs.declared.script.Stmt.{Stmt}
 use Rattle.cd_world.specs.declared.event.Event.{Event}
@@ -11,11 +11,14 @@ use Rattle.cd_meaning.specs.Run.{ending}
 use Rattle.cd_meaning.specs.Scripts.{script_run, standard_output, whole_files}
 use Rattle.cd_meaning.specs.TakeForm.{take_script}
 use Rattle.cd_grammar.specs.CanonicalText.{canonical_text}
+use Rattle.cd_types.specs.declared.refusal.Refusal.{Refusal}
+use Rattle.cd_types.specs.Typing.{HasType, IsRefused}
+use Rattle.cd_report.specs.CheckText.{check_text}
 use Rattle.cd_report.specs.declared.cause.Cause.{Cause}
-use Rattle.cd_report.specs.declared.cause.Cause.TheVariants.{Success, Usage, ScriptFault, NotBuilt, OutsideFault, NoMemory}
+use Rattle.cd_report.specs.declared.cause.Cause.TheVariants.{Success, Usage, ScriptFault, Refused, NotBuilt, OutsideFault, NoMemory}
 use Rattle.cd_cli.specs.Cause.{script_cause}
 use Rattle.cd_cli.specs.declared.arguments.Command.{Command}
-use Rattle.cd_cli.specs.declared.arguments.Command.TheVariants.{Run, Show}
+use Rattle.cd_cli.specs.declared.arguments.Command.TheVariants.{Run, Check, Show}
 use Rattle.cd_cli.specs.Arguments.{IsCommand, IsNone, script_of}
 use Rattle.cd_cli.specs.Form.{NoForm}
 use Rattle.cd_cli.specs.Judge.{read_limit, HasTree, HasNone, IsScriptOf}
@@ -48,20 +51,27 @@ pub data RunsTree (tree : List Stmt) (cause : Cause) : List Event → Type 0 whe
   no_form : NoForm tree → cause ≡ NotBuilt → RunsTree tree cause []
   of_form : (name : List ℕ) (count : ℕ) (calls : List Event) → tree ≡ take_script name count → IsRunCause cause → Runs name count cause calls → RunsTree tree cause calls
 
--- A tree was shown by these calls, which were writes to standard output alone. They wrote a front of its canonical text, and
--- all of it where the cause is Success. No call failed, unless that is the cause.
-pub record ShowsTree (tree : List Stmt) (cause : Cause) (calls : List Event) : Type 0 where
+-- These calls wrote a text. They are writes to standard output alone. They wrote a front of it, and all of it where the cause is
+-- Success. No call failed, unless that is the cause.
+pub record WritesText (text : List ℕ) (cause : Cause) (calls : List Event) : Type 0 where
   pub ran : IsRunCause cause
   pub writes : All (IsWriteOn 1) calls
   pub behind : List ℕ
-  pub front : canonical_text tree ≡ written_to 1 calls ++ behind
+  pub front : text ≡ written_to 1 calls ++ behind
   pub whole : cause ≡ Success → behind ≡ []
   pub calm : cause ≢ OutsideFault → NoneFailed calls
 
+-- The types of a tree were found. Where it has none it was refused, and nothing was done; and else this was done, which is listed.
+pub data FindsTypes {X : Type 0} (DoesSo : Cause → List X → Type 0) (tree : List Stmt) (cause : Cause) : List X → Type 0 where
+  untyped : cause ≡ NoMemory → FindsTypes DoesSo tree cause []
+  refused : (refusal : Refusal) → IsRefused tree refusal → cause ≡ Refused refusal → FindsTypes DoesSo tree cause []
+  has_type : (done : List X) → HasType tree → DoesSo cause done → FindsTypes DoesSo tree cause done
+
 -- What a command does with a tree, by its calls.
 abbrev pub Does : Command → List Stmt → Cause → List Event → Type 0
-Does (Run script) tree = RunsTree tree
-Does (Show script) tree = ShowsTree tree
+Does (Run script) tree = FindsTypes (RunsTree tree) tree
+Does (Check script) tree = FindsTypes (WritesText (check_text tree)) tree
+Does (Show script) tree = WritesText (canonical_text tree)
 
 -- A text was judged, and this was done with its tree by these calls.
 pub data Judges (DoesTree : List Stmt → Cause → List Event → Type 0) (text : List ℕ) (cause : Cause) : List Event → Type 0 where
@@ -112,17 +122,18 @@ pub data SendsTree (contents : List ℕ → List ℕ) (tree : List Stmt) (cause 
   no_form : NoForm tree → cause ≡ NotBuilt → SendsTree contents tree cause []
   of_form : (name : List ℕ) (count : ℕ) (sent : List ℕ) → tree ≡ take_script name count → IsRunCause cause → Puts contents name count cause sent → SendsTree contents tree cause sent
 
--- A tree was shown: a front of its canonical text was sent, and all of it where the cause is Success.
-pub record SendsText (tree : List Stmt) (cause : Cause) (sent : List ℕ) : Type 0 where
+-- A front of a text was sent, and all of it where the cause is Success.
+pub record SendsText (text : List ℕ) (cause : Cause) (sent : List ℕ) : Type 0 where
   pub ran : IsRunCause cause
   pub behind : List ℕ
-  pub front : canonical_text tree ≡ sent ++ behind
+  pub front : text ≡ sent ++ behind
   pub whole : cause ≡ Success → behind ≡ []
 
 -- What a command sends for a tree.
 abbrev pub SendsFor : Command → (List ℕ → List ℕ) → List Stmt → Cause → List ℕ → Type 0
-SendsFor (Run script) contents tree = SendsTree contents tree
-SendsFor (Show script) contents tree = SendsText tree
+SendsFor (Run script) contents tree = FindsTypes (SendsTree contents tree) tree
+SendsFor (Check script) contents tree = FindsTypes (SendsText (check_text tree)) tree
+SendsFor (Show script) contents tree = SendsText (canonical_text tree)
 
 -- A text was judged, and this was sent for its tree.
 pub data Sends (SendsSo : List Stmt → Cause → List ℕ → Type 0) (text : List ℕ) (cause : Cause) : List ℕ → Type 0 where
@@ -150,9 +161,10 @@ pub record Sent (Answer : List ℕ → Type 0) (f f' : Files) : Type 0 where
   pub rest : KeepsRest f f'
   pub answer : Answer sent
 
--- a text that this command takes: a script of the form to run, and any script to show
+-- a text that this command takes: a script of the form to run, one that has a type to check, and any script to show
 abbrev pub IsTaken : Command → List ℕ → Type 0
 IsTaken (Run script) text = (name : List ℕ) × (count : ℕ) × IsScriptOf text (take_script name count)
+IsTaken (Check script) text = (tree : List Stmt) × HasType tree × IsScriptOf text tree
 IsTaken (Show script) text = (tree : List Stmt) × IsScriptOf text tree
 
 -- With the words of a command, a script that it takes and no failed call, it comes to its end, or there is no memory.

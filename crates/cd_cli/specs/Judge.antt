@@ -5,8 +5,12 @@ use Rattle.cd_elem.specs.declared.script.Stmt.{Stmt}
 use Rattle.cd_elem.specs.declared.token.LimitKind.{LimitKind}
 use Rattle.cd_grammar.specs.Limits.{text_limit}
 use Rattle.cd_grammar.specs.Refusals.{IsText, IsSyntaxAt, IsLimitAt}
+use Rattle.cd_types.specs.declared.refusal.Refusal.{Refusal}
+use Rattle.cd_types.specs.Typing.{IsRefused as IsFirst}
+use Rattle.cd_typed.specs.declared.typed.Typed.{Typed}
+use Rattle.cd_typed.specs.TypedScripts.{IsTyped}
 use Rattle.cd_report.specs.declared.cause.Cause.{Cause}
-use Rattle.cd_report.specs.declared.cause.Cause.TheVariants.{ScriptLimit, ScriptText, Syntax, Limit, NoMemory}
+use Rattle.cd_report.specs.declared.cause.Cause.TheVariants.{ScriptLimit, ScriptText, Syntax, Limit, Refused, NoMemory}
 
 -- so many bytes of a script are read at most: one more than its text may have
 abbrev pub read_limit : ℕ
@@ -43,3 +47,8 @@ pub record HasNone (text : List ℕ) (cause : Cause) : Type 0 where
 abbrev pub Judged : List ℕ → Result (List Stmt) Cause → Type 0
 Judged text (Ok tree) = HasTree text tree
 Judged text (Err cause) = (cause ≡ NoMemory) ⊎ HasNone text cause
+
+-- their types, or why a script has none, or want of memory
+abbrev pub FindsTyped : List Stmt → Result Typed Cause → Type 0
+FindsTyped script (Ok typed) = IsTyped script typed
+FindsTyped script (Err cause) = (cause ≡ NoMemory) ⊎ ((refusal : Refusal) × IsFirst script refusal × (cause ≡ Refused refusal))

@@ -7,6 +7,7 @@ use Rattle.cd_world.specs.Causes.{Rose}
 use Rattle.cd_world.specs.Events.{written_to, IsWriteOn}
 use Rattle.cd_world.specs.Files.{Files, with_errors}
 use Rattle.cd_report.specs.declared.cause.Cause.{Cause}
+use Rattle.cd_report.specs.declared.cause.Cause.TheVariants.{Success}
 use Rattle.cd_report.specs.declared.cause.Said.{Said}
 use Rattle.cd_report.specs.declared.cause.Said.TheVariants.{Whole, WriteFailed, NoMemory}
 use Rattle.cd_cli.specs.Cause.{HasOrigin}
@@ -52,11 +53,13 @@ pub record IsReported (before now : ℕ) (said : Said) : Type 0 where
 
 -- ---- the whole command
 
--- The count was so before the line was told, and the cause comes from what failed up to there.
+-- The count was so before the line was told, and the cause comes from what failed up to there. With Success there is no line, so no call failed at all.
 pub record HasCount (before now : ℕ) (cause : Cause) (said : Said) : Type 0 where
   pub middle : ℕ
   pub origin : HasOrigin before middle cause
   pub reported : IsReported middle now said
+  pub silent : cause ≡ Success → said ≡ Whole
+  pub none_failed : cause ≡ Success → now ≡ before
 
 -- With no call that failed before the line was told, a command comes to its end, or there is no memory.
 abbrev pub CompletesBefore : List (List ℕ) → (List ℕ → List ℕ) → ℕ → ℕ → Cause → Said → Type 0

@@ -12,6 +12,8 @@ use thiserror::Error;
 pub enum Command {
     /// `run SCRIPT`
     Run { script: Literal },
+    /// `check SCRIPT`
+    Check { script: Literal },
     /// `show SCRIPT`
     Show { script: Literal },
 }
@@ -22,7 +24,9 @@ impl Command {
         ensures { result.now ≡ script_of self.now }
     {
         match self {
-            Command::Run { script } | Command::Show { script } => script.as_str(),
+            Command::Run { script } | Command::Check { script } | Command::Show { script } => {
+                script.as_str()
+            }
         }
     }
 }
@@ -46,8 +50,8 @@ impl From<NoMemory> for WordsRefusal {
     }
 }
 
-/// Reads the words of the command line, which come without the program's name: `run SCRIPT` or `show SCRIPT`. SCRIPT is
-/// not empty, and begins with `-` only where it is `-`.
+/// Reads the words of the command line, which come without the program's name: `run SCRIPT`, `check SCRIPT` or
+/// `show SCRIPT`. SCRIPT is not empty, and begins with `-` only where it is `-`.
 pub fn read_words(alloc: Global, words: &[String]) -> Result<Command, WordsRefusal>
     ensures { AreArguments (map string_bytes words.now) result }
 {
@@ -66,6 +70,9 @@ fn command_of(alloc: Global, verb: &str, script: &str) -> Result<Command, WordsR
     if verb == "run" {
         let script = Literal::new(alloc, script)?;
         Ok(Command::Run { script })
+    } else if verb == "check" {
+        let script = Literal::new(alloc, script)?;
+        Ok(Command::Check { script })
     } else if verb == "show" {
         let script = Literal::new(alloc, script)?;
         Ok(Command::Show { script })

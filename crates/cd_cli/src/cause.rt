@@ -1,10 +1,11 @@
 // How a run of the command ended.
 ghost use Rattle.std.specs.Prelude.{◌≡◌};
-ghost use Rattle.cd_cli.specs.Cause.{cause_of, cause_of_refusal, script_cause, words_cause};
+ghost use Rattle.cd_cli.specs.Cause.{cause_of, cause_of_check, cause_of_refusal, script_cause, words_cause};
 
 use crate::arguments::WordsRefusal;
 use cd_report::{Cause, Said};
 use cd_script::ScriptRefusal;
+use cd_typing::CheckRefusal;
 use cd_world::WorldError;
 
 impl From<WordsRefusal> for Cause {
@@ -36,6 +37,16 @@ pub fn refusal_cause(refusal: ScriptRefusal) -> Cause
         ScriptRefusal::Syntax { at } => Cause::Syntax { at },
         ScriptRefusal::Limit { which, at } => Cause::Limit { which, at },
         ScriptRefusal::NoMemory => Cause::NoMemory,
+    }
+}
+
+/// The cause where a script has no type.
+pub fn check_cause(refusal: CheckRefusal) -> Cause
+    ensures { result ≡ cause_of_check refusal }
+{
+    match refusal {
+        CheckRefusal::Refused(first) => Cause::Refused(first),
+        CheckRefusal::NoMemory => Cause::NoMemory,
     }
 }
 

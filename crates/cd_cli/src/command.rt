@@ -1,33 +1,36 @@
 // The command, from its words on.
-ghost use Rattle.std.specs.Prelude.{◌≡◌, List, IsTrue, map};
+ghost use Rattle.std.specs.Prelude.{◌≡◌, ℕ, List, IsTrue, IfOk, map};
 ghost use Rattle.std.specs.String.{string_bytes};
 ghost use Rattle.cd_grammar.specs.Canonical.{IsTreeWithin};
+ghost use Rattle.cd_grammar.specs.CanonicalText.{canonical_text};
 ghost use Rattle.cd_report.specs.Cause.{status_of};
 ghost use Rattle.cd_report.specs.CauseText.{cause_text};
+ghost use Rattle.cd_report.specs.CheckText as line;
 ghost use Rattle.cd_cli.specs.Cause.{HasOrigin};
 ghost use Rattle.cd_cli.specs.Arguments.{script_of};
-ghost use Rattle.cd_cli.specs.Command.{Does, RunsTree, ShowsTree, SendsFor, SendsTree, SendsText, Judges, Logs, ReadsAndJudges, Calls, Called, Sends, SendsScript, AnswersCommand, Sent, Completes};
+ghost use Rattle.cd_cli.specs.Command.{Does, FindsTypes, RunsTree, WritesText, SendsFor, SendsTree, SendsText, Judges, Logs, ReadsAndJudges, Calls, Called, Sends, SendsScript, AnswersCommand, Sent, Completes};
 ghost use Rattle.cd_cli.specs.Report.{HasCount, SentAndTold, CalledAndTold, CompletesBefore};
 
 use crate::arguments::{Command, read_words};
 use crate::cause::{Outcome, run_cause, script_cause};
 use crate::form::{Form, form_of};
-use crate::judge::judge;
+use crate::judge::{find_types, judge};
 use crate::report::report;
 use crate::script::read_script;
 use crate::streams::{Stream, write_all};
 use crate::take::run_take;
-use cd_elem::Script;
-use cd_report::Cause;
+use cd_elem::{NoMemory, Script};
+use cd_report::{Cause, check_text};
 use cd_script::print;
 use cd_world::World;
 use std::alloc::Global;
 
 /// Runs the command with these words, which are those of the command line without the program's name.
 ///
-/// `run SCRIPT` and `show SCRIPT` read the script file to its end, or to 65,537 bytes, close it and judge it. `run` then
-/// runs it where it is of the form `run sourceFile "NAME" | takeE N | stdout;`, and `show` writes its canonical text to
-/// standard output. Everything that was opened in the call is closed again, whatever comes. The line of the cause is
+/// `run SCRIPT`, `check SCRIPT` and `show SCRIPT` read the script file to its end, or to 65,537 bytes, close it and judge
+/// it. `show` then writes its canonical text to standard output. The others find its types. `check` says in a line on
+/// standard output how many statements and sites it has and how many elements it may hold, and `run` runs it where it is
+/// of the form `run sourceFile "NAME" | takeE N | stdout;`. Everything that was opened in the call is closed again, whatever comes. The line of the cause is
 /// written to standard error after that, as the last thing of all.
 pub fn conduit_main<W: World>(alloc: Global, words: &[String], world: &mut W) -> Outcome
     ensures status { result.status ≡ status_of result.cause }
@@ -86,27 +89,41 @@ fn run_text<W: World>(alloc: Global, world: &mut W, command: &Command, text: &[u
     ensures log { IsTrue W.tells_log → Logs (Judges (Does command.now) text.now) result (W.log world.old) (W.log world.new) }
 {
     match judge(alloc, text) {
-        Ok(script) => run_script(alloc, world, command, &script),
+        Ok(script) => run_script(alloc, world, command, script),
         Err(cause) => cause,
     }
 }
 
 /// Does with a script what the command says.
-fn run_script<W: World>(alloc: Global, world: &mut W, command: &Command, script: &Script) -> Cause
-    requires { IsTreeWithin script.now }
+fn run_script<W: World>(alloc: Global, world: &mut W, command: &Command, script: Script) -> Cause
+    requires { IsTreeWithin script }
     ensures origin { HasOrigin (W.faults world.old) (W.faults world.new) result }
     ensures live { W.live world.new ≡ W.live world.old }
-    ensures files { IsTrue W.tells_files → Sent (SendsFor command.now (W.files world.old).contents script.now result) (W.files world.old) (W.files world.new) }
-    ensures log { IsTrue W.tells_log → Logs (Does command.now script.now) result (W.log world.old) (W.log world.new) }
+    ensures files { IsTrue W.tells_files → Sent (SendsFor command.now (W.files world.old).contents script result) (W.files world.old) (W.files world.new) }
+    ensures log { IsTrue W.tells_log → Logs (Does command.now script) result (W.log world.old) (W.log world.new) }
 {
     match command {
         Command::Run { .. } => run_tree(alloc, world, script),
+        Command::Check { .. } => check_tree(alloc, world, script),
         Command::Show { .. } => show_tree(alloc, world, script),
     }
 }
 
+/// Finds the types of a script, and runs it where it is of the form.
+fn run_tree<W: World>(alloc: Global, world: &mut W, script: Script) -> Cause
+    ensures origin { HasOrigin (W.faults world.old) (W.faults world.new) result }
+    ensures live { W.live world.new ≡ W.live world.old }
+    ensures files { IsTrue W.tells_files → Sent (FindsTypes (SendsTree (W.files world.old).contents script) script result) (W.files world.old) (W.files world.new) }
+    ensures log { IsTrue W.tells_log → Logs (FindsTypes (RunsTree script) script) result (W.log world.old) (W.log world.new) }
+{
+    match find_types(alloc, script) {
+        Ok(typed) => run_form(alloc, world, typed.script()),
+        Err(cause) => cause,
+    }
+}
+
 /// Runs a script where it is of the form.
-fn run_tree<W: World>(alloc: Global, world: &mut W, script: &Script) -> Cause
+fn run_form<W: World>(alloc: Global, world: &mut W, script: &Script) -> Cause
     ensures origin { HasOrigin (W.faults world.old) (W.faults world.new) result }
     ensures live { W.live world.new ≡ W.live world.old }
     ensures files { IsTrue W.tells_files → Sent (SendsTree (W.files world.old).contents script.now result) (W.files world.old) (W.files world.new) }
@@ -121,15 +138,40 @@ fn run_tree<W: World>(alloc: Global, world: &mut W, script: &Script) -> Cause
     }
 }
 
-/// Writes the canonical text of a script to standard output.
-fn show_tree<W: World>(alloc: Global, world: &mut W, script: &Script) -> Cause
-    requires { IsTreeWithin script.now }
+/// Finds the types of a script, and says in a line on standard output what they come to.
+fn check_tree<W: World>(alloc: Global, world: &mut W, script: Script) -> Cause
     ensures origin { HasOrigin (W.faults world.old) (W.faults world.new) result }
     ensures live { W.live world.new ≡ W.live world.old }
-    ensures files { IsTrue W.tells_files → Sent (SendsText script.now result) (W.files world.old) (W.files world.new) }
-    ensures log { IsTrue W.tells_log → Logs (ShowsTree script.now) result (W.log world.old) (W.log world.new) }
+    ensures files { IsTrue W.tells_files → Sent (FindsTypes (SendsText (line.check_text script)) script result) (W.files world.old) (W.files world.new) }
+    ensures log { IsTrue W.tells_log → Logs (FindsTypes (WritesText (line.check_text script)) script) result (W.log world.old) (W.log world.new) }
 {
-    let Ok(text) = print(alloc, script) else {
+    match find_types(alloc, script) {
+        Ok(typed) => write_answer(world, check_text(alloc, &typed)),
+        Err(cause) => cause,
+    }
+}
+
+/// Writes the canonical text of a script to standard output.
+fn show_tree<W: World>(alloc: Global, world: &mut W, script: Script) -> Cause
+    requires { IsTreeWithin script }
+    ensures origin { HasOrigin (W.faults world.old) (W.faults world.new) result }
+    ensures live { W.live world.new ≡ W.live world.old }
+    ensures files { IsTrue W.tells_files → Sent (SendsText (canonical_text script) result) (W.files world.old) (W.files world.new) }
+    ensures log { IsTrue W.tells_log → Logs (WritesText (canonical_text script)) result (W.log world.old) (W.log world.new) }
+{
+    write_answer(world, print(alloc, &script))
+}
+
+/// Writes the text that a command answers to standard output, unless there was no memory for it.
+fn write_answer<W: World>(world: &mut W, answer: Result<String, NoMemory>) -> Cause
+    ensures origin { HasOrigin (W.faults world.old) (W.faults world.new) result }
+    ensures live { W.live world.new ≡ W.live world.old }
+    ensures files { (text : List ℕ) → IfOk answer (λ made. string_bytes made ≡ text) → IsTrue W.tells_files
+        → Sent (SendsText text result) (W.files world.old) (W.files world.new) }
+    ensures log { (text : List ℕ) → IfOk answer (λ made. string_bytes made ≡ text) → IsTrue W.tells_log
+        → Logs (WritesText text) result (W.log world.old) (W.log world.new) }
+{
+    let Ok(text) = answer else {
         return Cause::NoMemory;
     };
     match write_all(world, Stream::Output, text.as_bytes()) {

@@ -1,12 +1,14 @@
-// Judging the bytes of a script.
+// Judging the bytes of a script, and finding its types.
 ghost use Rattle.std.specs.Prelude.{IfOk};
 ghost use Rattle.cd_grammar.specs.Canonical.{IsTreeWithin};
-ghost use Rattle.cd_cli.specs.Judge.{Judged};
+ghost use Rattle.cd_cli.specs.Judge.{FindsTyped, Judged};
 
-use crate::cause::refusal_cause;
+use crate::cause::{check_cause, refusal_cause};
 use cd_elem::Script;
 use cd_report::Cause;
 use cd_script::{TEXT_LIMIT, parse};
+use cd_typed::Typed;
+use cd_typing::check;
 use simdutf8::compat;
 use std::alloc::Global;
 
@@ -26,5 +28,15 @@ pub fn judge(alloc: Global, text: &[u8]) -> Result<Script, Cause>
         Err(error) => Err(Cause::ScriptText {
             at: error.valid_up_to() as u32,
         }),
+    }
+}
+
+/// The types of a script, or why it has none.
+pub fn find_types(alloc: Global, script: Script) -> Result<Typed, Cause>
+    ensures { FindsTyped script result }
+{
+    match check(alloc, script) {
+        Ok(typed) => Ok(typed),
+        Err(refusal) => Err(check_cause(refusal)),
     }
 }

@@ -1,5 +1,7 @@
 // Telling a cause on standard error.
-ghost use Rattle.std.specs.Prelude.{◌≡◌, IsTrue};
+ghost use Rattle.std.specs.Prelude.{◌≡◌, IsTrue, []};
+ghost use Rattle.cd_report.specs.declared.cause.Cause.TheVariants.{Success as Silent};
+ghost use Rattle.cd_report.specs.declared.cause.Said.TheVariants.{Whole as Told};
 ghost use Rattle.cd_report.specs.CauseText as line;
 ghost use Rattle.cd_cli.specs.Report.{IsReported, LogsReport, Tells, said_of};
 
@@ -12,6 +14,7 @@ use std::alloc::Global;
 /// Writes the line of a cause to standard error, and says how much of it was written.
 pub fn report<W: World>(alloc: Global, world: &mut W, cause: Cause) -> Said
     ensures count { IsReported (W.faults world.old) (W.faults world.new) result }
+    ensures silent { cause ≡ Silent → result ≡ Told }
     ensures live { W.live world.new ≡ W.live world.old }
     ensures files { IsTrue W.tells_files → Tells (line.cause_text cause) result (W.files world.old) (W.files world.new) }
     ensures log { IsTrue W.tells_log → LogsReport (line.cause_text cause) result (W.log world.old) (W.log world.new) }
@@ -28,6 +31,7 @@ pub fn report<W: World>(alloc: Global, world: &mut W, cause: Cause) -> Said
 /// Writes a line to standard error, and says how much of it was written.
 fn write_line<W: World>(world: &mut W, text: &str) -> Said
     ensures count { IsReported (W.faults world.old) (W.faults world.new) result }
+    ensures empty { text.now ≡ [] → result ≡ Told }
     ensures live { W.live world.new ≡ W.live world.old }
     ensures files { IsTrue W.tells_files → Tells text.now result (W.files world.old) (W.files world.new) }
     ensures log { IsTrue W.tells_log → LogsReport text.now result (W.log world.old) (W.log world.new) }

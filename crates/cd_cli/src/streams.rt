@@ -1,5 +1,5 @@
 // The standard streams that are written to.
-ghost use Rattle.std.specs.Prelude.{◌≡◌, IsTrue};
+ghost use Rattle.std.specs.Prelude.{◌≡◌, ◌≢◌, IsTrue, OnErr, []};
 ghost use Rattle.cd_world.specs.Causes.{HasCause};
 ghost use Rattle.cd_cli.specs.Streams.{LogsFront, WritesFront, descriptor_of};
 
@@ -26,6 +26,7 @@ impl Stream {
 /// Writes all of `bytes` to a standard stream, in as many calls as it takes.
 pub fn write_all<W: World>(world: &mut W, to: Stream, bytes: &[u8]) -> Result<(), WorldError>
     ensures cause { HasCause (W.faults world.old) (W.faults world.new) result }
+    ensures empty { OnErr result (bytes.now ≢ []) }
     ensures live { W.live world.new ≡ W.live world.old }
     ensures files { IsTrue W.tells_files → WritesFront to bytes.now result (W.files world.old) (W.files world.new) }
     ensures log { IsTrue W.tells_log → LogsFront to bytes.now result (W.log world.old) (W.log world.new) }

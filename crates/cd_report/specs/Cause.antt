@@ -11,6 +11,7 @@ status_of cause.ScriptLimit = 4
 status_of (cause.ScriptText at) = 4
 status_of (cause.Syntax at) = 4
 status_of (cause.Limit which at) = 4
+status_of (cause.Refused refusal) = 5
 status_of cause.OutsideFault = 7
 status_of cause.NoMemory = 9
 status_of cause.NotBuilt = 10

@@ -1,3 +1,5 @@
 pub mod Cause
 pub mod CauseText
+pub mod CheckText
 pub mod Rows
+pub mod ValueText

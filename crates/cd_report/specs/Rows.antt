@@ -2,13 +2,15 @@
 use Rattle.std.specs.Prelude.{◌≡◌, refl, [], codes}
 use Rattle.std.specs.Fmt.{digits}
 use Rattle.cd_elem.specs.declared.token.LimitKind.TheVariants as limit
+use Rattle.cd_types.specs.declared.refusal.RefusalKind.TheVariants as kind
 use Rattle.cd_report.specs.declared.cause.Cause.TheVariants as cause
 use Rattle.cd_report.specs.CauseText.{cause_text}
+use Rattle.cd_report.specs.CheckText.{check_text, summary}
 
 success_is_silent : cause_text cause.Success ≡ []
 success_is_silent = refl
 
-usage : cause_text cause.Usage ≡ codes "conduit: usage: conduit (run SCRIPT | show SCRIPT)\n"
+usage : cause_text cause.Usage ≡ codes "conduit: usage: conduit (run SCRIPT | check SCRIPT | show SCRIPT)\n"
 usage = refl
 
 unread_script : cause_text cause.ScriptFault ≡ codes "conduit: the script could not be read\n"
@@ -53,6 +55,18 @@ number_passed : cause_text (cause.Limit limit.Number 0) ≡ codes "conduit: limi
 unfolding digits
 number_passed = refl
 
+sees_chunks : cause_text (cause.Refused (record { kind = kind.SeesChunks; statement = 1; part = 3 })) ≡ codes "conduit: refused 2 SeesChunks at statement 1, part 3\n"
+unfolding digits
+sees_chunks = refl
+
+too_many_statements : cause_text (cause.Refused (record { kind = kind.TooMany; statement = 257; part = 0 })) ≡ codes "conduit: refused 10 TooMany at statement 257, part 0\n"
+unfolding digits
+too_many_statements = refl
+
+spent_key : cause_text (cause.Refused (record { kind = kind.Key; statement = 3; part = 0 })) ≡ codes "conduit: refused 12 Key at statement 3, part 0\n"
+unfolding digits
+spent_key = refl
+
 not_built : cause_text cause.NotBuilt ≡ codes "conduit: this form is not built yet\n"
 not_built = refl
 
@@ -61,3 +75,11 @@ outside_fault = refl
 
 no_memory : cause_text cause.NoMemory ≡ codes "conduit: out of memory\n"
 no_memory = refl
+
+nothing_checked : check_text [] ≡ codes "ok 0 statements, 0 sites, bound 0\n"
+unfolding digits
+nothing_checked = refl
+
+greatest_summary : summary 256 128 268435456 ≡ codes "ok 256 statements, 128 sites, bound 268435456\n"
+unfolding digits
+greatest_summary = refl

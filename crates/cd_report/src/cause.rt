@@ -3,6 +3,7 @@ ghost use Rattle.std.specs.Prelude.{◌≡◌};
 ghost use Rattle.cd_report.specs.Cause.{status_of};
 
 use cd_elem::LimitKind;
+use cd_types::Refusal;
 
 /// Why the command ended.
 #[derive(Clone, Copy, Debug, PartialEq, Eq)]
@@ -21,6 +22,8 @@ pub enum Cause {
     Syntax { at: u32 },
     /// The token at this byte of the script passes a limit.
     Limit { which: LimitKind, at: u32 },
+    /// The script has no type, and this is refused first in it.
+    Refused(Refusal),
     /// The script is of a form that does not run yet.
     NotBuilt,
     /// A call on the outside failed, after the script was closed.
@@ -42,6 +45,7 @@ impl Cause {
             | Cause::ScriptText { .. }
             | Cause::Syntax { .. }
             | Cause::Limit { .. } => 4,
+            Cause::Refused(_) => 5,
             Cause::OutsideFault => 7,
             Cause::NoMemory => 9,
             Cause::NotBuilt => 10,

@@ -5,10 +5,11 @@ ghost use Rattle.cd_report.specs.CauseText as spec;
 
 use crate::cause::Cause;
 use cd_elem::{LimitKind, NoMemory};
+use cd_types::{Refusal, RefusalKind};
 use std::alloc::Global;
 
 /// The commands and their words, as they are now.
-const USAGE: &str = "usage: conduit (run SCRIPT | show SCRIPT)";
+const USAGE: &str = "usage: conduit (run SCRIPT | check SCRIPT | show SCRIPT)";
 
 /// The line that tells a cause on standard error, with its newline. Success has none: its text is empty, and takes no
 /// memory.
@@ -24,6 +25,7 @@ pub fn cause_text(alloc: Global, cause: Cause) -> Result<String, NoMemory>
         Cause::ScriptText { at } => line_at(alloc, "the script is not UTF-8", at),
         Cause::Syntax { at } => line_at(alloc, "syntax error", at),
         Cause::Limit { which, at } => line_at(alloc, limit_passed(which), at),
+        Cause::Refused(refusal) => refusal_line(alloc, refusal),
         Cause::NotBuilt => line(alloc, "this form is not built yet"),
         Cause::OutsideFault => line(alloc, "a file could not be opened, read, written or closed"),
         Cause::NoMemory => line(alloc, "out of memory"),
@@ -59,5 +61,67 @@ fn limit_passed(which: LimitKind) -> &'static str
         LimitKind::Depth => "limit of depth passed",
         LimitKind::Literal => "limit of literal passed",
         LimitKind::Number => "limit of number passed",
+    }
+}
+
+/// The line of a refusal: its kind, and the statement and the part at which it stands.
+fn refusal_line(alloc: Global, refusal: Refusal) -> Result<String, NoMemory>
+    ensures { IfOk result (λ text. string_bytes text ≡ spec.refusal_line refusal) }
+{
+    let number = kind_number(refusal.kind);
+    let name = kind_name(refusal.kind);
+    line_of_kind(alloc, number, name, refusal.statement, refusal.part)
+}
+
+/// The line of a refusal of the kind with this number and name.
+fn line_of_kind(
+    alloc: Global,
+    number: u32,
+    name: &str,
+    statement: u32,
+    part: u32,
+) -> Result<String, NoMemory>
+    ensures { IfOk result (λ text. string_bytes text ≡ spec.line_of_kind number name.now statement part) }
+{
+    Ok(format!(in alloc;
+        "conduit: refused {number} {name} at statement {statement}, part {part}\n"
+    )?)
+}
+
+fn kind_number(kind: RefusalKind) -> u32
+    ensures { result ≡ spec.kind_number kind }
+{
+    match kind {
+        RefusalKind::KindMismatch => 1,
+        RefusalKind::SeesChunks => 2,
+        RefusalKind::NeedsElements => 3,
+        RefusalKind::DropsRest => 4,
+        RefusalKind::NotInvertible => 5,
+        RefusalKind::NameTwice => 6,
+        RefusalKind::Seal => 7,
+        RefusalKind::BoundTooLarge => 8,
+        RefusalKind::ResultLost => 9,
+        RefusalKind::TooMany => 10,
+        RefusalKind::OpenEnd => 11,
+        RefusalKind::Key => 12,
+    }
+}
+
+fn kind_name(kind: RefusalKind) -> &'static str
+    ensures { result.now ≡ spec.kind_name kind }
+{
+    match kind {
+        RefusalKind::KindMismatch => "KindMismatch",
+        RefusalKind::SeesChunks => "SeesChunks",
+        RefusalKind::NeedsElements => "NeedsElements",
+        RefusalKind::DropsRest => "DropsRest",
+        RefusalKind::NotInvertible => "NotInvertible",
+        RefusalKind::NameTwice => "NameTwice",
+        RefusalKind::Seal => "Seal",
+        RefusalKind::BoundTooLarge => "BoundTooLarge",
+        RefusalKind::ResultLost => "ResultLost",
+        RefusalKind::TooMany => "TooMany",
+        RefusalKind::OpenEnd => "OpenEnd",
+        RefusalKind::Key => "Key",
     }
 }

@@ -1,4 +1,4 @@
-use Rattle.cd_cli.proofs.ReportSteps.{called_and_told, sent_and_told}
+use Rattle.cd_cli.proofs.ReportSteps.{called_and_told, sent_and_told, success_unfailed}
 use Rattle.cd_cli.proofs.command.conduit_main.Goals as goal
 
 pub returns-clause-origin : goal.returns-clause-origin
@@ -6,6 +6,8 @@ returns-clause-origin g c = record {
   middle = g.W.World.faults c.answer_words-cause.new.world;
   origin = c.answer_words-cause.ensures.origin;
   reported = c.report-said.ensures.count;
+  silent = c.report-said.ensures.silent;
+  none_failed = success_unfailed _ _ _ _ _ c.answer_words-cause.ensures.origin c.report-said.ensures.count c.report-said.ensures.silent;
 }
 
 pub returns-clause-files : goal.returns-clause-files
