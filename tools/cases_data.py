@@ -162,7 +162,7 @@ def type_answers(case):
 
 
 def type_cases():
-    for case in rows("types.jsonl"):
+    for case in rows("types.jsonl") + rows("refusals.jsonl"):
         yield text_lines("script", case["script"]), type_answers(case)
 
 

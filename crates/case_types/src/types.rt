@@ -42,12 +42,7 @@ fn write_typed(alloc: Global, lines: &mut String, typed: &Typed) -> Result<(), C
     write!(lines, "= {text}")?;
     drop(text);
     write_sites(lines, typed.sites().as_slice())?;
-    Ok(writeln!(
-        lines,
-        "= {} seals, {} keys",
-        typed.seals(),
-        typed.keys()
-    )?)
+    Ok(writeln!(lines, "= {} seals, {} keys", typed.seals(), typed.keys())?)
 }
 
 /// Adds the line of the refusal.
