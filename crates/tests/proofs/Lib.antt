@@ -1,1 +1,2 @@
 pub mod OpenMarks
+pub mod TwoFiles

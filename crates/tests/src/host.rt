@@ -76,26 +76,39 @@ fn marks(rt: HostRuntime) -> Result<(), Fail> {
 fn two_files_in_turns(rt: HostRuntime) -> Result<(), Fail> {
     let first_name = file_with(&rt, "first", "ab")?;
     let second_name = file_with(&rt, "second", "cd")?;
-    for closes_first in [true, false] {
-        let mut world = HostWorld::new(rt.alloc(), &rt);
-        let mut into = [0; 1];
-        let first = world.open_read(&first_name)?;
-        let second = world.open_read(&second_name)?;
-        for (from, byte) in [(first, b'a'), (second, b'c'), (first, b'b')] {
-            assert_eq!(rt; world.read(from, &mut into), Ok(1));
-            assert_eq!(rt; into[0], byte);
-        }
-        let (sooner, later, left) = if closes_first {
-            (first, second, Ok(1))
-        } else {
-            (second, first, Ok(0))
-        };
-        assert_eq!(rt; world.close(sooner), Ok(()));
-        assert_eq!(rt; world.read(later, &mut into), left);
-        assert_eq!(rt; world.close(later), Ok(()));
-    }
+    let mut world = HostWorld::new(rt.alloc(), &rt);
+    let mut into = [0; 1];
+    let first = world.open_read(&first_name)?;
+    let second = world.open_read(&second_name)?;
+    assert_eq!(rt; world.read(first, &mut into), Ok(1));
+    assert_eq!(rt; into, *b"a");
+    assert_eq!(rt; world.read(second, &mut into), Ok(1));
+    assert_eq!(rt; into, *b"c");
+    assert_eq!(rt; world.read(first, &mut into), Ok(1));
+    assert_eq!(rt; into, *b"b");
+    assert_eq!(rt; world.close(first), Ok(()));
+    assert_eq!(rt; world.read(second, &mut into), Ok(1));
+    assert_eq!(rt; into, *b"d");
+    assert_eq!(rt; world.close(second), Ok(()));
     assert!(rt; holds(&rt, &first_name, "ab"));
     assert!(rt; holds(&rt, &second_name, "cd"));
+    fs::remove_file(&rt, first_name.as_str())?;
+    fs::remove_file(&rt, second_name.as_str())?;
+    Ok(())
+}
+
+#[test]
+fn the_later_file_closed_first(rt: HostRuntime) -> Result<(), Fail> {
+    let first_name = file_with(&rt, "sooner", "ab")?;
+    let second_name = file_with(&rt, "later", "cd")?;
+    let mut world = HostWorld::new(rt.alloc(), &rt);
+    let mut into = [0; 2];
+    let first = world.open_read(&first_name)?;
+    let second = world.open_read(&second_name)?;
+    assert_eq!(rt; world.close(second), Ok(()));
+    assert_eq!(rt; world.read(first, &mut into), Ok(2));
+    assert_eq!(rt; into, *b"ab");
+    assert_eq!(rt; world.close(first), Ok(()));
     fs::remove_file(&rt, first_name.as_str())?;
     fs::remove_file(&rt, second_name.as_str())?;
     Ok(())

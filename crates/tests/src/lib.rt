@@ -6,8 +6,10 @@ mod back;
 #[cfg(test)]
 mod host;
 mod marks;
+mod readers;
 #[cfg(test)]
 mod scope;
+mod sites;
 #[cfg(test)]
 mod tokens;
 #[cfg(test)]
@@ -15,4 +17,5 @@ mod values;
 #[cfg(test)]
 mod world;
 
-pub use marks::two_marks;
+pub use marks::{Release, two_marks};
+pub use readers::many_readers;
