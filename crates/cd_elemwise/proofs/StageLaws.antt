@@ -102,7 +102,7 @@ same_kept e f h = (ap grade_of h.0, refl, h.2, ap (λ k. Some (kind_of k)) h.0, 
 -- the chunk is read, and then it asks
 pub need_stage : (e : ElemStage) (s : Carried) (c : Chunk) → IsTrue (is_cut e.sort) → e.told ≡ false → e.keep ≡ None → c.0 ≡ e.sort → IsPlan e.sort s c.1 plan.Need (carried e) → Goes Need (seen_from s c e) (seen_stage (record e { stand = Wait }))
 need_stage e s c h t k i p =
-    rw (t, k) (need_law (word_scan e.sort) (part_at e.stand) (grade_of e.sort) (gives_of e.state e.sort) (Some (kind_of e.sort)) _ _ _ (items c) s (carried e) (subst (λ u. IsSilent (word_scan e.sort) s u (carried e)) (sym (cut_items e.sort c h i)) p.0) p.1)
+    rw (t, k) (need_law (word_scan e.sort) (part_at e.stand) (grade_of e.sort) (gives_of e.state e.sort) (Some (kind_of e.sort)) _ _ _ (items c) s (carried e) (subst (λ u. IsSilent (word_scan e.sort) s u (carried e)) (sym (cut_items e.sort c h i)) p.0) p.1 tt)
 
 -- some of the chunk is read, and d is given for it
 pub emit_stage : (e : ElemStage) (s : Carried) (c d : Chunk) (count : ℕ) (r : Option Chunk) → IsTrue (is_cut e.sort) → e.told ≡ false → c.0 ≡ e.sort → d.0 ≡ e.sort → 0 < length d.1 → length d.1 ≤ chunk_limit
@@ -208,7 +208,7 @@ one_silent k c l = all_silent (items c) where
 
 pub sink_stage : (e : ElemStage) (c : Chunk) → e.told ≡ false → e.keep ≡ None → e.state ≡ state.SinkNull → Went (with_chunk c e) Need (record e { stand = Wait })
 sink_stage e c t k h =
-    rw (t, k, h) (need_law (word_scan e.sort) (part_at e.stand) (grade_of e.sort) None (Some (kind_of e.sort)) _ _ _ (items c) (Doing state.SinkNull (gathered e.list)) (Doing state.SinkNull (gathered e.list)) (one_silent e.sort c (gathered e.list)) refl)
+    rw (t, k, h) (need_law (word_scan e.sort) (part_at e.stand) (grade_of e.sort) None (Some (kind_of e.sort)) _ _ _ (items c) (Doing state.SinkNull (gathered e.list)) (Doing state.SinkNull (gathered e.list)) (one_silent e.sort c (gathered e.list)) refl tt)
 
 -- ---- with nothing unread
 
@@ -232,7 +232,7 @@ ready_value k _ l h = cc
 
 pub ask_stage : (e : ElemStage) → e.told ≡ false → e.keep ≡ None → asks_of e.state ≡ true → Went e Need (record e { stand = Wait })
 ask_stage e t k h =
-    rw (t, k) (need_law (word_scan e.sort) (part_at e.stand) (grade_of e.sort) (gives_of e.state e.sort) (Some (kind_of e.sort)) _ _ _ [] (carried e) (carried e) refl (asks_ready e.sort e.state (gathered e.list) h))
+    rw (t, k) (need_law (word_scan e.sort) (part_at e.stand) (grade_of e.sort) (gives_of e.state e.sort) (Some (kind_of e.sort)) _ _ _ [] (carried e) (carried e) refl (asks_ready e.sort e.state (gathered e.list) h) tt)
 
 pub final_stage : (e : ElemStage) (m : Move) (f : ElemStage) → e.told ≡ false → e.keep ≡ None → asks_of e.state ≡ false → IsFinal e m → f.stand ≡ Over → f.told ≡ e.told → IsSameStage e f → KeepsBounds f → Went e m f
 final_stage e (Done v None) f t k h i o u s g = record {

@@ -14,7 +14,7 @@ use Rattle.cd_step.specs.declared.protocol.Move.{Move}
 use Rattle.cd_step.specs.declared.protocol.Move.TheVariants.{Emit, Need, Done as Finished, Fault as Faulted}
 use Rattle.cd_step.specs.declared.protocol.Input.TheVariants.{Chunk as Given, End as TheEnd}
 use Rattle.cd_meaning.specs.Known.{known, nothing_known}
-use Rattle.cd_step.specs.Parts.{Chunk, Part, rest, items, rest_items, fed, IsOf, Goes, Goes_on, IsGiven, Kept, Had, IsSound, AreApart}
+use Rattle.cd_step.specs.Parts.{Chunk, Part, rest, items, rest_items, fed, IsOf, Takes, Goes, Goes_on, IsGiven, Kept, Had, IsSound, AreApart}
 use Rattle.cd_step.specs.Flows.{Same, Says}
 
 -- ---- what is compared by the one grade is compared by the other
@@ -35,6 +35,17 @@ pub nets_seen : (g : Grade) → IsGrade g → Sees g (nets g.pieces)
 nets_seen g k (Then s a r) = rw (net_if_twice g.pieces s, nets_seen g k r)
 nets_seen g k (Ends s (Done v)) = rw (k s)
 nets_seen g k (Ends s (Halts h)) = rw (net_if_twice g.pieces s)
+
+lower_net : (b b' : Bool) (s : Stamp) → (b' ≡ true → b ≡ true) → net_if b' (net_if b s) ≡ net_if b' s
+lower_net true b' s h = refl
+lower_net false true s h = absurd (let e : false ≡ true = h refl in cc)
+lower_net false false s h = refl
+
+-- a grade that compares no more sees no more
+pub lower_seen : (g g' : Grade) → (g'.pieces ≡ true → g.pieces ≡ true) → (g'.exact ≡ true → g.exact ≡ true) → Sees g g'
+lower_seen g g' h k (Then s a r) = rw (lower_net g.pieces g'.pieces s h, lower_seen g g' h k r)
+lower_seen g g' h k (Ends s (Done v)) = rw (lower_net g.exact g'.exact s k)
+lower_seen g g' h k (Ends s (Halts x)) = rw (lower_net g.pieces g'.pieces s h)
 
 view_by : (g g' : Grade) → Sees g g' → (r r' : Run) → view g r ≡ view g r' → view g' r ≡ view g' r'
 view_by g g' s r r' h = sym (s r) ∙ ap (view g') h ∙ s r'
@@ -122,7 +133,7 @@ floor_of p q s = (s.goes nothing_known).floor
 
 pub goes_after : (m : Move) (p q r : Part) → Same p q → Goes m q r → Goes m p r
 goes_after (Emit d) p q r s h = (subst (λ k. IsOf k d) s.kept.2 h.0, record { is_at = h.1.is_at; goes = after_acts _ p q r s h.1.goes })
-goes_after Need p q r s h = record { is_at = h.is_at; goes = after_acts [] p q r s h.goes; none_unread = h.none_unread; asks = h.asks }
+goes_after Need p q r s h = record { is_at = h.is_at; takes = subst Takes s.kept.3 h.takes; goes = after_acts [] p q r s h.goes; none_unread = h.none_unread; asks = h.asks }
 goes_after (Finished v x) p q r s h = record {
   is_at = h.is_at;
   floor = h.floor ∙ floor_of p q s;

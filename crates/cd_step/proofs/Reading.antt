@@ -17,7 +17,7 @@ use Rattle.cd_step.specs.declared.protocol.Input.{Input}
 use Rattle.cd_step.specs.declared.protocol.Input.TheVariants.{Start, Chunk as Given, End as TheEnd, Next}
 use Rattle.cd_step.specs.declared.protocol.Move.{Move}
 use Rattle.cd_step.specs.declared.protocol.Move.TheVariants.{Emit, Need, Done, Fault as Faulted}
-use Rattle.cd_step.specs.Parts.{Chunk, At, Wait, Gave, Over, Part, items, rest_items, weight_any, weigh, of_pieces, IsOf, IsGiven, fed, outs_of, Goes, Kept, Stepped, IsSound}
+use Rattle.cd_step.specs.Parts.{Chunk, At, Wait, Gave, Over, Part, items, rest_items, weight_any, weigh, of_pieces, IsOf, Takes, IsGiven, fed, outs_of, Goes, Kept, Stepped, IsSound}
 use Rattle.cd_step.specs.Flows.{Retires}
 use Rattle.cd_step.specs.Reading.{scan_rest, part_of, IsRead, IsSilent, IsLast, IsDone}
 use Rattle.cd_step.proofs.Moving.{moves_none, moves_gets, moves_gets_end, goes_after}
@@ -29,7 +29,7 @@ closed_finishes g v acts e c h = rw (c, h) (record { read = []; unread = refl; r
 -- what a part held before a move decides nothing
 pub goes_counted : (m : Move) (at : At) (g : Grade) (gives takes : Option Kind) (room n k : ℕ) (p : Rest) (q : Part) → Goes m (part_of at g gives takes room n p) q → Goes m (part_of at g gives takes room k p) q
 goes_counted (Emit d) at g gives takes room n k p q h = (h.0, record { is_at = h.1.is_at; goes = h.1.goes })
-goes_counted Need at g gives takes room n k p q h = record { is_at = h.is_at; goes = h.goes; none_unread = h.none_unread; asks = h.asks }
+goes_counted Need at g gives takes room n k p q h = record { is_at = h.is_at; takes = h.takes; goes = h.goes; none_unread = h.none_unread; asks = h.asks }
 goes_counted (Done v r) at g gives takes room n k p q h = record { is_at = h.is_at; floor = h.floor; given = h.given; left = h.left; finishes = h.finishes }
 goes_counted (Faulted f) at g gives takes room n k p q h = record { is_at = h.is_at; stuck = h.stuck }
 
@@ -84,10 +84,11 @@ module _ {S : Type 0} (w : Scan S) where
   -- ---- moves
 
   -- all that is unread is read, and then it asks
-  pub need_law : (at : At) (g : Grade) (gives takes : Option Kind) (room n m : ℕ) (u : List Item) (st t : S) → IsSilent w st u t → w.ready t ≡ None
+  pub need_law : (at : At) (g : Grade) (gives takes : Option Kind) (room n m : ℕ) (u : List Item) (st t : S) → IsSilent w st u t → w.ready t ≡ None → Takes takes
       → Goes Need (part_of at g gives takes room n (scan_rest w false st u)) (part_of Wait g gives takes room m (scan_rest w false t []))
-  need_law at g gives takes room n m u st t h r = record {
+  need_law at g gives takes room n m u st t h r k = record {
     is_at = refl;
+    takes = k;
     goes = λ z. subst (λ l. Moves g [] (left st l) (left t [])) (append-nil u) (silent_moves g u [] st t h);
     none_unread = refl;
     asks = λ z. scan_needs w t r;

@@ -1,5 +1,6 @@
 -- What a controller owes after a move of one of its parts.
 use Rattle.std.specs.Prelude.{◌≡◌, ◌<◌, ◌≤◌, ◌+◌, ℕ, Bool, true, false, [], ◌++◌, Option, Some, None}
+use Rattle.cd_elem.specs.declared.kind.Kind.{Kind}
 use Rattle.cd_elem.specs.declared.value.Value.{Value as Result}
 use Rattle.cd_meaning.specs.Stream.{Value, absent, present}
 use Rattle.cd_meaning.specs.Fusion.{both}
@@ -65,11 +66,15 @@ IsBack (Own s) a b a' b' r = r ≡ s
 IsBack AtUpper a b a' b' r = (rest_items r ≡ a.unread) × IsGiven a.takes r × (a'.held + weight_any r ≤ a.held)
 IsBack AtLower a b a' b' r = (rest_items r ≡ b.unread) × IsGiven b.takes r × (b'.held + weight_any r ≤ b.held)
 
+-- what a part of the first input gives back is of the second
+abbrev pub GivesBack : Option Kind → Option Kind → Type 0
+GivesBack j k = (r : Option Chunk) → IsGiven j r → IsGiven k r
+
 -- what w has not read stands there
 abbrev pub IsFound : Found → Part → Part → Part → Type 0
 IsFound (Own r) w a b = (rest_items r ≡ w.unread) × IsGiven w.takes r
-IsFound AtUpper w a b = (a.unread ≡ w.unread) × (a.takes ≡ w.takes) × (IsOver a → ⊥)
-IsFound AtLower w a b = (b.unread ≡ w.unread) × (b.takes ≡ w.takes) × (IsOver b → ⊥)
+IsFound AtUpper w a b = (a.unread ≡ w.unread) × GivesBack a.takes w.takes × (IsOver a → ⊥)
+IsFound AtLower w a b = (b.unread ≡ w.unread) × GivesBack b.takes w.takes × (IsOver b → ⊥)
 
 abbrev pub picked : Found → Option Chunk → Option Chunk → Option Chunk
 picked (Own r) up down = r

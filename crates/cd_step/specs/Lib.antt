@@ -1,3 +1,4 @@
 pub mod Flows
 pub mod Parts
 pub mod Reading
+pub mod Sites

@@ -1,5 +1,5 @@
 -- What is seen of a part, and what each input and each move say of it.
-use Rattle.std.specs.Prelude.{◌≡◌, ℕ, ◌==◌, ◌<◌, ◌≤◌, ◌+◌, Bool, true, false, List, [], ◌∷◌, ◌++◌, length, map, Option, Some, None}
+use Rattle.std.specs.Prelude.{◌≡◌, ℕ, ◌==◌, ◌<◌, ◌≤◌, ◌+◌, max, Bool, true, false, ◌||◌, List, [], ◌∷◌, ◌++◌, length, map, Option, Some, None}
 use Rattle.cd_elem.specs.Limits.{chunk_limit}
 use Rattle.cd_elem.specs.declared.kind.Kind.{Kind}
 use Rattle.cd_elem.specs.declared.kind.Kind.TheVariants.{Bytes, Chars, Blocks, Texts}
@@ -82,8 +82,9 @@ pieces_at Chars = false
 pieces_at (Blocks m) = true
 pieces_at (Texts m) = true
 
+-- Where nets of acts are compared: on pieces, and where there is no input, so that they are all 0.
 abbrev pub of_pieces : Option Kind → Bool
-of_pieces None = false
+of_pieces None = true
 of_pieces (Some k) = pieces_at k
 
 -- a chunk of this kind
@@ -103,21 +104,49 @@ IsGiven k (Some c) = IsOf k c
 abbrev pub IsWithin : Kind → Kind → Type 0
 IsWithin j k = (sort_at j ≡ sort_at k) × (chunk_at j ≤ chunk_at k)
 
--- an output that a part of this input can read
+-- an output that a part of this input can read; one that takes nothing reads nothing of it
 abbrev pub Meets : Option Kind → Option Kind → Type 0
 Meets None k = Unit {0}
-Meets (Some j) None = ⊥
+Meets (Some j) None = Unit {0}
 Meets (Some j) (Some k) = IsWithin j k
 
--- outputs that come one behind the other
+-- outputs that come one behind the other: of one sort, and of pieces the larger bound holds of both
 abbrev pub Agree : Option Kind → Option Kind → Type 0
 Agree None h = Unit {0}
 Agree (Some j) None = Unit {0}
-Agree (Some j) (Some k) = j ≡ k
+Agree (Some j) (Some k) = sort_at j ≡ sort_at k
+
+abbrev pub bound_at : Kind → ℕ
+bound_at Bytes = 0
+bound_at Chars = 0
+bound_at (Blocks m) = m
+bound_at (Texts m) = m
+
+abbrev pub larger : Kind → Kind → Kind
+larger Bytes k = Bytes
+larger Chars k = Chars
+larger (Blocks m) k = Blocks (max m (bound_at k))
+larger (Texts m) k = Texts (max m (bound_at k))
 
 abbrev pub joined : Option Kind → Option Kind → Option Kind
 joined None h = h
-joined (Some j) h = Some j
+joined (Some j) None = Some j
+joined (Some j) (Some k) = Some (larger j k)
+
+-- it takes something
+abbrev pub Takes : Option Kind → Type 0
+Takes None = ⊥
+Takes (Some k) = Unit {0}
+
+-- inputs of parts that read one input after each other: each reads it, or nothing
+abbrev pub Shares : Option Kind → Option Kind → Type 0
+Shares None h = Unit {0}
+Shares (Some j) None = Unit {0}
+Shares (Some j) (Some k) = j ≡ k
+
+abbrev pub shared : Option Kind → Option Kind → Option Kind
+shared None h = h
+shared (Some j) h = Some j
 
 -- ---- parts
 
@@ -219,6 +248,7 @@ pub record Acting (acts : List Act) (at : At) (p q : Part) : Type 0 where
 
 pub record Needs (p q : Part) : Type 0 where
   pub is_at : q.at ≡ Wait
+  pub takes : Takes p.takes
   pub goes : Goes_on [] p q
   pub none_unread : q.unread ≡ []
   pub asks : (z : Seen) → Asks (rest q z)
@@ -269,12 +299,24 @@ pub record IsSound (p : Part) : Type 0 where
   pub rising : (z : Seen) (ys : List Item) (e : End) → Rising p.floor (p.run z ys e)
   -- what is unread is counted
   pub counts : weigh p.unread ≤ p.held
-  -- where its input is of pieces, the nets of all acts are compared
+  -- where its input is of pieces, or it has none, the nets of all acts are compared
   pub graded : p.grade.pieces ≡ of_pieces p.takes
   -- its tickets are of its own sites
   pub own : (s d : ℕ) → p.tickets s d ≡ true → p.sites s ≡ true
 
+-- a part that has not begun
+pub record IsUnbegun (p : Part) : Type 0 where
+  pub is_at : p.at ≡ Fresh
+  pub floor : p.floor ≡ 0
+  pub unread : p.unread ≡ []
+
 -- ---- wholes of two parts
+
+abbrev pub both_sites : (ℕ → Bool) → (ℕ → Bool) → ℕ → Bool
+both_sites a b s = a s || b s
+
+abbrev pub both_tickets : (ℕ → ℕ → Bool) → (ℕ → ℕ → Bool) → ℕ → ℕ → Bool
+both_tickets a b s d = a s d || b s d
 
 -- no site stands in both
 abbrev pub AreApart : (ℕ → Bool) → (ℕ → Bool) → Type 0
@@ -314,6 +356,7 @@ IsOutAt Over sites = ⊥
 
 pub record IsWaiting (b : Part) : Type 0 where
   pub is_at : b.at ≡ Wait
+  pub takes : Takes b.takes
   pub none_unread : b.unread ≡ []
   pub asks : (z : Seen) → Asks (rest b z)
   pub held : IsHeld b

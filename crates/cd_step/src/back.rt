@@ -38,6 +38,12 @@ impl Back {
         Back { chunk: None }
     }
 
+    pub fn new(chunk: Option<Chunk>) -> Back
+        ensures { result ≡ chunk }
+    {
+        Back { chunk }
+    }
+
     pub fn push(&mut self, chunk: Chunk)
         requires { self.old ≡ None }
         ensures { self.new ≡ Some chunk }
