@@ -1,0 +1,5 @@
+mod FollowMoves
+mod FollowTurns
+mod FuseMoves
+mod FuseTurns
+mod Sound
