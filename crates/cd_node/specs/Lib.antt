@@ -1,0 +1,5 @@
+pub mod Nodes
+pub mod Ports
+pub mod Rows
+pub mod Sinks
+pub mod Sources
