@@ -15,7 +15,7 @@ times() {
     done
 }
 
-# An empty script, and scripts of about 8,192 tokens: 256 statements with 128 sites; 128 seals that are fed; and one
+# An empty script, and scripts of about 8,192 tokens: 256 statements with 128 sites; 128 seals that are closed; and one
 # statement whose results are pairs of pairs, within 30 braces.
 printf '' > nothing
 {
@@ -23,7 +23,7 @@ printf '' > nothing
     times 128 "run bytes \"a\"$(times 13 ' | passE') | sinkNull; "
 } > wide
 for name in $(seq 128); do
-    printf 'let seal%s = seal sourceFile "a"%s; feed seal%s%s | sinkNull; ' "$name" "$(times 13 ' | passE')" "$name" "$(times 13 ' | passE')"
+    printf 'let seal%s = seal sourceFile "a"%s; close seal%s%s | sinkNull; ' "$name" "$(times 13 ' | passE')" "$name" "$(times 13 ' | passE')"
 done > seals
 {
     printf 'run bytes "a" | %s { passE; lengthE }' "$(times 30 '{ ')"
@@ -39,7 +39,7 @@ for script in nothing wide seals pairs; do
         best=
         for _ in $(seq "$runs"); do
             begun=$(date +%s%N)
-            "$program" "$verb" "$script" > out 2>&1 || true
+            "$program" "$verb" "$script" > out
             took=$(($(date +%s%N) - begun))
             [ -n "$best" ] && [ "$best" -le "$took" ] || best=$took
         done
