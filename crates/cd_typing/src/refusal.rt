@@ -3,23 +3,16 @@ ghost use Rattle.std.specs.Prelude.{◌≡◌};
 
 use cd_elem::NoMemory;
 use cd_types::{Refusal, RefusalKind};
-use std::fmt;
 use thiserror::Error;
 
 /// Why a script is not typed.
-#[derive(Clone, Copy, Error)]
+#[derive(Clone, Copy, Debug, Error)]
 pub enum CheckRefusal {
     /// It has no type, and this is refused first.
     #[error("refused at statement {}, part {}", .0.statement, .0.part)]
     Refused(Refusal),
     #[error("out of memory")]
     NoMemory,
-}
-
-impl fmt::Debug for CheckRefusal {
-    fn fmt<W: fmt::Write>(&self, f: &mut fmt::Formatter<W>) -> fmt::Result {
-        fmt::Display::fmt(self, f)
-    }
 }
 
 impl From<NoMemory> for CheckRefusal {
