@@ -1,2 +1,1 @@
 pub mod OpenMarks
-pub mod TwoFiles

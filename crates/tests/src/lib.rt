@@ -4,18 +4,14 @@
 #[cfg(test)]
 mod back;
 #[cfg(test)]
-mod host;
 mod marks;
+#[cfg(test)]
 mod readers;
 #[cfg(test)]
 mod scope;
+#[cfg(test)]
 mod sites;
 #[cfg(test)]
 mod tokens;
 #[cfg(test)]
 mod values;
-#[cfg(test)]
-mod world;
-
-pub use marks::{Release, two_marks};
-pub use readers::many_readers;

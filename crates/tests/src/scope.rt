@@ -4,115 +4,143 @@ use crate::readers::many_readers;
 use cd_elem::Site;
 use cd_scope::JournalLine;
 use cd_world::Fail;
-use std::test;
 
-/// A run of two marks, and what its scope must tell.
-#[derive(Clone, Copy)]
-struct Row<'a> {
-    failing: Option<(&'a str, Fail)>,
-    release: Release,
-    lines: &'a [JournalLine],
-    first_fault: Option<Site>,
+/// A line that no scope of two marks tells.
+const ANOTHER: &str = "another";
+
+/// What a scope of the mark `m` at site 1 and the mark `n` at site 2 tells of a call.
+fn words_of(line: &JournalLine) -> &str {
+    match line {
+        JournalLine::Acquired(site) => match site.0 {
+            1 => "open m",
+            2 => "open n",
+            _ => ANOTHER,
+        },
+        JournalLine::ClosedEarly { site, failed } => match (site.0, *failed) {
+            (1, false) => "close m",
+            (1, true) => "fail to close m",
+            (2, false) => "close n",
+            (2, true) => "fail to close n",
+            _ => ANOTHER,
+        },
+        JournalLine::ClosedAtEnd { site, failed } => match (site.0, *failed) {
+            (1, false) => "end m",
+            (1, true) => "fail to end m",
+            (2, false) => "end n",
+            (2, true) => "fail to end n",
+            _ => ANOTHER,
+        },
+    }
 }
 
-/// The line of an open.
-fn opened(site: u32) -> JournalLine {
-    JournalLine::Acquired(Site(site))
+/// Whether this is what the scope told.
+fn is_told(lines: &[JournalLine], wanted: &str) -> bool {
+    let mut words = wanted.split(", ");
+    for line in lines {
+        if words.next() != Some(words_of(line)) {
+            return false;
+        }
+    }
+    words.next().is_none()
 }
 
-/// The line of a close before the end.
-fn early(site: u32, failed: bool) -> JournalLine {
-    let site = Site(site);
-    JournalLine::ClosedEarly { site, failed }
+/// Which call fails, how the first mark is released, what the scope tells, and the site of the first failure at its end.
+type Row<'a> = (Option<(&'a str, Fail)>, Release, &'a str, u32);
+
+const NO_FAILURE: u32 = 0;
+
+const ROWS: [Row<'static>; 10] = [
+    (
+        None,
+        Release::Ticket,
+        "open m, open n, close m, end n",
+        NO_FAILURE,
+    ),
+    (
+        None,
+        Release::Site,
+        "open m, open n, close m, end n",
+        NO_FAILURE,
+    ),
+    (
+        Some(("m", Fail::Opening(1))),
+        Release::Never,
+        "open n, end n",
+        NO_FAILURE,
+    ),
+    (
+        Some(("m", Fail::Opening(1))),
+        Release::Ticket,
+        "open n, end n",
+        NO_FAILURE,
+    ),
+    (
+        Some(("n", Fail::Opening(1))),
+        Release::Never,
+        "open m, end m",
+        NO_FAILURE,
+    ),
+    (
+        Some(("n", Fail::Opening(1))),
+        Release::Ticket,
+        "open m, close m",
+        NO_FAILURE,
+    ),
+    (
+        Some(("m", Fail::Closing(1))),
+        Release::Never,
+        "open m, open n, end n, fail to end m",
+        1,
+    ),
+    (
+        Some(("m", Fail::Closing(1))),
+        Release::Ticket,
+        "open m, open n, fail to close m, end n",
+        NO_FAILURE,
+    ),
+    (
+        Some(("n", Fail::Closing(1))),
+        Release::Never,
+        "open m, open n, fail to end n, end m",
+        2,
+    ),
+    (
+        Some(("n", Fail::Closing(1))),
+        Release::Ticket,
+        "open m, open n, close m, fail to end n",
+        2,
+    ),
+];
+
+#[test]
+fn scopes(rt: HostRuntime) {
+    for (failing, release, journal, first_fault) in ROWS {
+        let finished = two_marks(rt.alloc(), failing, release).expect(&rt, "memory");
+        assert!(rt; is_told(finished.journal.as_slice(), journal));
+        let fault = finished.first_fault.map_or(NO_FAILURE, |site| site.0);
+        assert!(rt; fault == first_fault);
+    }
 }
 
-/// The line of a close at the end.
-fn at_end(site: u32, failed: bool) -> JournalLine {
-    let site = Site(site);
-    JournalLine::ClosedAtEnd { site, failed }
+/// Whether the lines are opens of the sites from 1 to a count, and then closes at the end in the other order.
+fn is_nested(lines: &[JournalLine], count: u32) -> bool {
+    let (opens, closes) = lines.split_at(lines.len() / 2);
+    opens.len() == count as usize
+        && closes.len() == count as usize
+        && opens.iter().zip(1..=count).all(|(line, number)| *line
+            == JournalLine::Acquired(Site(number)))
+        && closes.iter().zip((1..=count).rev()).all(|(line, number)| {
+            *line
+                == JournalLine::ClosedAtEnd {
+                    site: Site(number),
+                    failed: false,
+                }
+        })
 }
 
 #[test]
-fn scopes(rt: HostRuntime) -> Result<(), test::Fail> {
-    let rows = [
-        Row {
-            failing: None,
-            release: Release::Ticket,
-            lines: &[opened(1), opened(2), early(1, false), at_end(2, false)],
-            first_fault: None,
-        },
-        Row {
-            failing: None,
-            release: Release::Site,
-            lines: &[opened(1), opened(2), early(1, false), at_end(2, false)],
-            first_fault: None,
-        },
-        Row {
-            failing: Some(("m", Fail::Opening(1))),
-            release: Release::Never,
-            lines: &[opened(2), at_end(2, false)],
-            first_fault: None,
-        },
-        Row {
-            failing: Some(("m", Fail::Opening(1))),
-            release: Release::Ticket,
-            lines: &[opened(2), at_end(2, false)],
-            first_fault: None,
-        },
-        Row {
-            failing: Some(("n", Fail::Opening(1))),
-            release: Release::Never,
-            lines: &[opened(1), at_end(1, false)],
-            first_fault: None,
-        },
-        Row {
-            failing: Some(("n", Fail::Opening(1))),
-            release: Release::Ticket,
-            lines: &[opened(1), early(1, false)],
-            first_fault: None,
-        },
-        Row {
-            failing: Some(("m", Fail::Closing(1))),
-            release: Release::Never,
-            lines: &[opened(1), opened(2), at_end(2, false), at_end(1, true)],
-            first_fault: Some(Site(1)),
-        },
-        Row {
-            failing: Some(("m", Fail::Closing(1))),
-            release: Release::Ticket,
-            lines: &[opened(1), opened(2), early(1, true), at_end(2, false)],
-            first_fault: None,
-        },
-        Row {
-            failing: Some(("n", Fail::Closing(1))),
-            release: Release::Never,
-            lines: &[opened(1), opened(2), at_end(2, true), at_end(1, false)],
-            first_fault: Some(Site(2)),
-        },
-        Row {
-            failing: Some(("n", Fail::Closing(1))),
-            release: Release::Ticket,
-            lines: &[opened(1), opened(2), early(1, false), at_end(2, true)],
-            first_fault: Some(Site(2)),
-        },
-    ];
-    for row in rows {
-        let finished = two_marks(rt.alloc(), row.failing, row.release)?;
-        assert!(rt; finished.journal.as_slice() == row.lines);
-        assert!(rt; finished.first_fault == row.first_fault);
-    }
-    Ok(())
-}
-
-#[test]
-fn readers(rt: HostRuntime) -> Result<(), test::Fail> {
-    let finished = many_readers(rt.alloc(), 128)?;
-    let lines = finished.journal.as_slice();
-    assert_eq!(rt; lines.len(), 256);
-    for number in 1..129 {
-        assert!(rt; lines.get(number - 1) == Some(&opened(number as u32)));
-        assert!(rt; lines.get(256 - number) == Some(&at_end(number as u32, false)));
-    }
+fn readers(rt: HostRuntime) {
+    let finished = many_readers(rt.alloc(), 128).expect(&rt, "memory");
+    assert!(rt; is_nested(finished.journal.as_slice(), 128));
     assert!(rt; finished.first_fault.is_none());
-    Ok(())
 }

@@ -4,59 +4,54 @@ use cd_elem::{
     Sort, SourceWord, Stmt, StmtList, Value, ValueList, Word,
 };
 use std::alloc::Global;
-use std::test::Fail;
 
 #[test]
-fn lists(rt: HostRuntime) -> Result<(), Fail> {
+fn lists(rt: HostRuntime) {
     let alloc = rt.alloc();
     let mut items: Items<u32> = Items::new(alloc);
     assert!(rt; items.is_empty());
     for number in [5, 6, 7] {
-        assert_eq!(rt; items.push(number), Ok(()));
+        assert!(rt; items.push(number).is_ok());
     }
     if let Some(middle) = items.get_mut(1) {
         *middle = 9;
     }
-    assert_eq!(rt; items.get(1), Some(&9));
-    assert_eq!(rt; items.get(3), None);
-    assert_eq!(rt; items.pop(), Some(7));
-    items.extend_from_slice(&[1, 2])?;
-    assert_eq!(rt; items.as_slice(), [5, 9, 1, 2].as_slice());
-    let copy = Items::from_slice(alloc, items.as_slice())?;
-    assert_eq!(rt; copy.into_vec().as_slice(), [5, 9, 1, 2].as_slice());
-    Ok(())
+    assert!(rt; items.get(1) == Some(&9) && items.get(3) == None);
+    assert!(rt; items.pop() == Some(7));
+    assert!(rt; items.extend_from_slice(&[1, 2]).is_ok());
+    assert!(rt; items.as_slice() == [5, 9, 1, 2].as_slice());
+    let copy = Items::from_slice(alloc, items.as_slice()).expect(&rt, "memory");
+    assert!(rt; copy.into_vec().as_slice() == [5, 9, 1, 2].as_slice());
 }
 
 #[test]
-fn reserved_room(rt: HostRuntime) -> Result<(), Fail> {
-    let alloc = rt.alloc();
-    let mut roomy: Roomy<u32> = Roomy::new(alloc);
-    roomy.reserve(2)?;
+fn reserved_room(rt: HostRuntime) {
+    let mut roomy: Roomy<u32> = Roomy::new(rt.alloc());
+    assert!(rt; roomy.reserve(2).is_ok());
     for number in [5, 6, 7] {
-        assert_eq!(rt; roomy.push(number), Ok(()));
+        assert!(rt; roomy.push(number).is_ok());
     }
     if let Some(first) = roomy.get_mut(0) {
         *first = 4;
     }
-    assert_eq!(rt; roomy.pop(), Some(7));
-    assert_eq!(rt; roomy.len(), 2);
-    assert_eq!(rt; roomy.get(1), Some(&6));
-    assert_eq!(rt; roomy.as_slice(), [4, 6].as_slice());
-    Ok(())
+    assert!(rt; roomy.pop() == Some(7));
+    assert!(rt; roomy.len() == 2);
+    assert!(rt; roomy.get(1) == Some(&6));
+    assert!(rt; roomy.as_slice() == [4, 6].as_slice());
 }
 
 #[test]
-fn literals(rt: HostRuntime) -> Result<(), Fail> {
+fn literals(rt: HostRuntime) {
     for text in ["", "a.txt", "é"] {
-        assert_eq!(rt; Literal::new(rt.alloc(), text)?.as_str(), text);
+        let literal = Literal::new(rt.alloc(), text).expect(&rt, "memory");
+        assert!(rt; literal.as_str() == text);
     }
-    Ok(())
 }
 
 #[test]
-fn names(rt: HostRuntime) -> Result<(), Fail> {
-    assert_eq!(rt; Name::new(rt.alloc(), "kept1")?.as_str(), "kept1");
-    Ok(())
+fn names(rt: HostRuntime) {
+    let name = Name::new(rt.alloc(), "kept1").expect(&rt, "memory");
+    assert!(rt; name.as_str() == "kept1");
 }
 
 fn boxed<T: Drop>(alloc: Global, item: T) -> Result<Boxed<T>, NoMemory> {
@@ -73,74 +68,106 @@ fn with<T: Drop>(list: &mut Items<T>, item: T) -> Result<(), NoMemory> {
     }
 }
 
-#[test]
-fn values(rt: HostRuntime) -> Result<(), Fail> {
-    let alloc = rt.alloc();
-    let counted = boxed(alloc, Value::Num(3))?;
-    assert!(rt; matches!(counted.get(), Value::Num(3)));
-    let mut list: ValueList = Items::new(alloc);
-    with(
-        &mut list,
-        Value::Pair(counted, boxed(alloc, Value::Maybe(None))?),
-    )?;
-    with(&mut list, Value::BytesV(Items::from_slice(alloc, b"ab")?))?;
-    let Some(Value::BytesV(bytes)) = list.pop() else {
-        return Err(Fail::new("the last value"));
-    };
-    assert_eq!(rt; bytes.as_slice(), b"ab".as_slice());
-    let Some(Value::Pair(first, second)) = list.pop() else {
-        return Err(Fail::new("the first value"));
-    };
-    assert!(rt; matches!(first.into_inner(), Value::Num(3)));
-    assert!(rt; matches!(second.into_inner(), Value::Maybe(None)));
-    Ok(())
+/// A pair of a number and nothing.
+fn pair_of(alloc: Global) -> Result<Value, NoMemory> {
+    let nothing = boxed(alloc, Value::Maybe(None))?;
+    match boxed(alloc, Value::Num(3)) {
+        Ok(number) => Ok(Value::Pair(number, nothing)),
+        Err(NoMemory) => {
+            drop(nothing);
+            Err(NoMemory)
+        }
+    }
+}
+
+/// Whether this is that pair.
+fn is_pair(value: &Value) -> bool {
+    match value {
+        Value::Pair(first, second) => {
+            matches!(first.get(), Value::Num(3)) && matches!(second.get(), Value::Maybe(None))
+        }
+        _ => false,
+    }
 }
 
 #[test]
-fn scripts(rt: HostRuntime) -> Result<(), Fail> {
+fn values(rt: HostRuntime) {
     let alloc = rt.alloc();
+    let mut list: ValueList = Items::new(alloc);
+    let pair = pair_of(alloc).expect(&rt, "memory");
+    assert!(rt; with(&mut list, pair).is_ok());
+    let bytes = Items::from_slice(alloc, b"ab").expect(&rt, "memory");
+    assert!(rt; with(&mut list, Value::BytesV(bytes)).is_ok());
+    let last = list.pop().expect(&rt, "the last value");
+    assert!(rt; matches!(&last, Value::BytesV(bytes) if bytes.as_slice() == b"ab".as_slice()));
+    let first = list.pop().expect(&rt, "the first value");
+    assert!(rt; is_pair(&first));
+}
+
+#[test]
+fn unboxed(rt: HostRuntime) {
+    let counted = boxed(rt.alloc(), Value::Num(3)).expect(&rt, "memory");
+    assert!(rt; matches!(counted.into_inner(), Value::Num(3)));
+    let nothing = boxed(rt.alloc(), Value::Maybe(None)).expect(&rt, "memory");
+    assert!(rt; matches!(nothing.into_inner(), Value::Maybe(None)));
+}
+
+/// `sourceFile "a" | exactlyE 5 (stdout)`, as a tree.
+fn chain_of(alloc: Global) -> Result<Pipe, NoMemory> {
     let mut members: PipeList = Items::new(alloc);
-    with(
-        &mut members,
-        Pipe::Word(Word::Source(SourceWord::SourceFile(Literal::new(alloc, "a")?))),
-    )?;
+    let source = SourceWord::SourceFile(Literal::new(alloc, "a")?);
+    with(&mut members, Pipe::Word(Word::Source(source)))?;
     let inner = boxed(alloc, Pipe::Word(Word::Sink(SinkWord::Stdout)))?;
     with(&mut members, Pipe::ExactlyE(5, inner))?;
-    let mut statements: StmtList = Items::new(alloc);
-    with(
-        &mut statements,
-        Stmt::Run(Pipe::Chain(Join::Plain, members)),
-    )?;
-    let script = Script::new(statements);
-    let Some(Stmt::Run(Pipe::Chain(Join::Plain, parts))) = script.statements().get(0) else {
-        return Err(Fail::new("the statement"));
-    };
-    assert_eq!(rt; parts.len(), 2);
-    let Some(Pipe::ExactlyE(5, body)) = parts.get(1) else {
-        return Err(Fail::new("the section"));
-    };
-    assert!(rt; matches!(body.get(), Pipe::Word(Word::Sink(SinkWord::Stdout))));
-    Ok(())
+    Ok(Pipe::Chain(Join::Plain, members))
+}
+
+/// Whether its second member is a section of five elements.
+fn is_chain(pipe: &Pipe) -> bool {
+    match pipe {
+        Pipe::Chain(Join::Plain, members) => {
+            members.len() == 2
+                && match members.get(1) {
+                    Some(Pipe::ExactlyE(5, body)) => {
+                        matches!(body.get(), Pipe::Word(Word::Sink(SinkWord::Stdout)))
+                    }
+                    _ => false,
+                }
+        }
+        _ => false,
+    }
 }
 
 #[test]
-fn chunks(rt: HostRuntime) -> Result<(), Fail> {
+fn scripts(rt: HostRuntime) {
     let alloc = rt.alloc();
-    let mut bytes = Chunk::bytes(alloc, b"abcde")?;
-    let front = bytes.cut(alloc, 2)?;
-    assert_eq!(rt; front.as_bytes(), Some(b"ab".as_slice()));
+    let chain = chain_of(alloc).expect(&rt, "memory");
+    let mut statements: StmtList = Items::new(alloc);
+    assert!(rt; with(&mut statements, Stmt::Run(chain)).is_ok());
+    let script = Script::new(statements);
+    assert!(rt; matches!(script.statements().get(0), Some(Stmt::Run(pipe)) if is_chain(pipe)));
+}
+
+#[test]
+fn chunks(rt: HostRuntime) {
+    let alloc = rt.alloc();
+    let mut bytes = Chunk::bytes(alloc, b"abcde").expect(&rt, "memory");
+    let front = bytes.cut(alloc, 2).expect(&rt, "memory");
+    assert!(rt; front.as_bytes() == Some(b"ab".as_slice()));
     bytes.skip(1);
-    assert_eq!(rt; bytes.sort(), Sort::Bytes);
-    assert_eq!(rt; bytes.as_bytes(), Some(b"de".as_slice()));
-    assert_eq!(rt; bytes.as_chars(), None);
-    assert_eq!(rt; bytes.get(1), Some(101));
-    assert_eq!(rt; bytes.get(2), None);
-    let mut piece = Chunk::block(alloc, b"ab")?;
+    assert!(rt; bytes.sort() == Sort::Bytes);
+    assert!(rt; bytes.as_bytes() == Some(b"de".as_slice()) && bytes.as_chars() == None);
+    assert!(rt; bytes.get(1) == Some(101) && bytes.get(2) == None);
+}
+
+#[test]
+fn pieces(rt: HostRuntime) {
+    let mut piece = Chunk::block(rt.alloc(), b"ab").expect(&rt, "memory");
     piece.skip(2);
     assert!(rt; piece.is_empty());
-    assert_eq!(rt; Chunk::chars(alloc, &['é'])?.get(0), Some(233));
-    let text = Chunk::text(alloc, &['a', 'b'])?;
-    assert_eq!(rt; text.as_chars(), Some(['a', 'b'].as_slice()));
-    assert_eq!(rt; text.len(), 2);
-    Ok(())
+    let text = Chunk::text(rt.alloc(), &['a', 'b']).expect(&rt, "memory");
+    assert!(rt; text.as_chars() == Some(['a', 'b'].as_slice()));
+    assert!(rt; text.len() == 2);
+    let characters = Chunk::chars(rt.alloc(), &['é']).expect(&rt, "memory");
+    assert!(rt; characters.get(0) == Some(233));
 }

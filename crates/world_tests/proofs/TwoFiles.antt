@@ -1,10 +1,16 @@
 -- Of two files that are open at once, one stays open where the other one is closed.
 use Rattle.std.proofs.Common.{◌≡◌, ℕ, List, [], ◌∷◌, ◌++◌, Contains, sym, ap, ◌∙◌, refl, subst, append_assoc}
 use Rattle.std.proofs.lemmas.List.{append-nil}
-use Rattle.std.proofs.lemmas.List.Elements.{Contains-push}
+use Rattle.std.proofs.lemmas.List.Elements.{Contains-push, Contains-append_left}
 use Rattle.cd_world.specs.declared.event.Descriptor.{Descriptor}
 use Rattle.cd_world.specs.declared.event.Use.{Use}
 use Rattle.cd_world.specs.Live.{Open, open_as, IsLive, Removes}
+
+-- the first, behind the open of the second
+pub first_opened : (u : Use) (n m : List ℕ) (l0 l1 l2 : List Open) (d e : Descriptor) → l1 ≡ l0 ++ open_as u d n ∷ [] → l2 ≡ l1 ++ open_as u e m ∷ [] → IsLive u d l2
+first_opened u n m l0 l1 l2 d e first second =
+    let here : Contains l1 (open_as u d n) = subst (λ (l : List Open). Contains l (open_as u d n)) (sym first) (Contains-push l0 (open_as u d n)) in
+    (n, subst (λ (l : List Open). Contains l (open_as u d n)) (sym second) (Contains-append_left l1 (open_as u e m ∷ []) (open_as u d n) here))
 
 module _ (u : Use) (n m : List ℕ) (l0 l1 l2 l3 : List Open) (d e : Descriptor) (first : l1 ≡ l0 ++ open_as u d n ∷ []) (second : l2 ≡ l1 ++ open_as u e m ∷ []) where
   -- the first, where the second is closed
