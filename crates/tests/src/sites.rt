@@ -4,22 +4,32 @@ ghost use Rattle.std.specs.Prelude.{◌≡◌, IfOk};
 use cd_elem::{Items, Literal, NoMemory};
 use cd_scope::AcquireError;
 use cd_typed::{SiteInfo, SiteUse};
-use cd_world::{Fail, MemoryFile};
+use cd_world::{Fail, FailList, MemoryFile};
 use std::alloc::Global;
+
+fn fails_of(alloc: Global, failing: Option<Fail>) -> Result<FailList, NoMemory> {
+    match failing {
+        Some(fail) => Items::from_slice(alloc, &[fail]),
+        None => Ok(Items::new(alloc)),
+    }
+}
 
 /// An empty file, of which one call may fail.
 pub fn file_of(alloc: Global, name: &str, failing: Option<Fail>) -> Result<MemoryFile, NoMemory> {
-    let mut fails = Items::new(alloc);
-    if let Some(fail) = failing {
-        fails.push(fail).map_err(|_| NoMemory)?;
+    let name = Literal::new(alloc, name)?;
+    match fails_of(alloc, failing) {
+        Ok(fails) => Ok(MemoryFile {
+            name,
+            bytes: Items::new(alloc),
+            read_cuts: Items::new(alloc),
+            write_cuts: Items::new(alloc),
+            fails,
+        }),
+        Err(NoMemory) => {
+            drop(name);
+            Err(NoMemory)
+        }
     }
-    Ok(MemoryFile {
-        name: Literal::new(alloc, name)?,
-        bytes: Items::new(alloc),
-        read_cuts: Items::new(alloc),
-        write_cuts: Items::new(alloc),
-        fails,
-    })
 }
 
 /// A site on a file.
