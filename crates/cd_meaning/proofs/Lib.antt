@@ -1,6 +1,8 @@
 pub mod Begins
 pub mod Cut
 pub mod Follow
+pub mod Halves
+pub mod HalvesOfTrees
 pub mod Lawful
 pub mod Moves
 pub mod Opens

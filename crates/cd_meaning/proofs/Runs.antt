@@ -8,6 +8,7 @@ pub mod PlainSplitters
 pub mod PlainText
 pub mod Results
 pub mod Scans
+pub mod SequenceGroups
 pub mod Sequences
 pub mod Shapes
 pub mod Sources

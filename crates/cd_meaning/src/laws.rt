@@ -24,6 +24,7 @@ ghost use Rattle.cd_meaning.specs.PlainZips.{plain_merge, plain_zip};
 ghost use Rattle.cd_meaning.specs.Run.{Component, Run, effects, stamp};
 ghost use Rattle.cd_meaning.specs.Scoped.{IsScoped};
 ghost use Rattle.cd_meaning.specs.Scripts.{script_places, script_run, whole_files};
+ghost use Rattle.cd_meaning.specs.Sections.{sequence};
 ghost use Rattle.cd_meaning.specs.Splitters.{chunks_of, exact, split};
 ghost use Rattle.cd_meaning.specs.Stream.{Elem, End, Ended, Flow, Halt, Halted, Item, Value};
 ghost use Rattle.cd_meaning.specs.Text.{utf8, utf8_lenient};
@@ -66,13 +67,30 @@ pub fn need_bound()
 {}
 
 /// Plain fusion is associative, in acts, values and stamps: of components of which the later two obey the laws, and of
-/// trees of which the later two are lawful. `a | b | c` means `(a | b) | c`.
+/// trees of which the later two are lawful. `a | b | c` means `(a | b) | c`, and a longer chain is cut in two anywhere.
 pub fn weave_associativity()
     ensures components { (a b c : Component) → IsRun b → IsRun c → (xs : List Item) (e : End) → fuse (fuse a b) c xs e ≡ fuse a (fuse b c) xs e }
     ensures grouped { (p q r : Pipe) → IsLawfulTree q → IsLawfulTree r → (flow : Flow) (site : ℕ) (seen : Seen) (xs : List Item) (e : End)
         → (pipe_meaning (pipe.Chain Plain (pipe.Chain Plain (p ∷ q ∷ []) ∷ r ∷ []))).run flow site seen xs e
         ≡ (pipe_meaning (pipe.Chain Plain (p ∷ pipe.Chain Plain (q ∷ r ∷ []) ∷ []))).run flow site seen xs e }
     ensures in_a_row { (p q r : Pipe) → pipe_meaning (pipe.Chain Plain (p ∷ q ∷ r ∷ [])) ≡ pipe_meaning (pipe.Chain Plain (p ∷ pipe.Chain Plain (q ∷ r ∷ []) ∷ [])) }
+    ensures halves { (p : Pipe) (ps : List Pipe) (q : Pipe) (qs : List Pipe) → IsLawfulTree (pipe.Chain Plain ps) → IsLawfulTree (pipe.Chain Plain (q ∷ qs))
+        → (flow : Flow) (site : ℕ) (seen : Seen) (xs : List Item) (e : End)
+        → (pipe_meaning (pipe.Chain Plain (p ∷ ps ++ q ∷ qs))).run flow site seen xs e
+        ≡ (pipe_meaning (pipe.Chain Plain (pipe.Chain Plain (p ∷ ps) ∷ pipe.Chain Plain (q ∷ qs) ∷ []))).run flow site seen xs e }
+{}
+
+/// Sequences are associative, in acts, values and stamps: of any components, and of any trees. `{ a; b; c }` means
+/// `{ { a; b }; c }`, and a longer sequence is cut in two anywhere.
+pub fn sequence_associativity()
+    ensures components { (a b c : Component) (xs : List Item) (e : End) → sequence (sequence a b) c xs e ≡ sequence a (sequence b c) xs e }
+    ensures grouped { (p q r : Pipe) (flow : Flow) (site : ℕ) (seen : Seen) (xs : List Item) (e : End)
+        → (pipe_meaning (pipe.Sequence (pipe.Sequence (p ∷ q ∷ []) ∷ r ∷ []))).run flow site seen xs e
+        ≡ (pipe_meaning (pipe.Sequence (p ∷ pipe.Sequence (q ∷ r ∷ []) ∷ []))).run flow site seen xs e }
+    ensures in_a_row { (p q r : Pipe) → pipe_meaning (pipe.Sequence (p ∷ q ∷ r ∷ [])) ≡ pipe_meaning (pipe.Sequence (p ∷ pipe.Sequence (q ∷ r ∷ []) ∷ [])) }
+    ensures halves { (p : Pipe) (ps : List Pipe) (q : Pipe) (qs : List Pipe) (flow : Flow) (site : ℕ) (seen : Seen) (xs : List Item) (e : End)
+        → (pipe_meaning (pipe.Sequence (p ∷ ps ++ q ∷ qs))).run flow site seen xs e
+        ≡ (pipe_meaning (pipe.Sequence (pipe.Sequence (p ∷ ps) ∷ pipe.Sequence (q ∷ qs) ∷ []))).run flow site seen xs e }
 {}
 
 /// Words and forms that have one formula: a word on elements and its twin on pieces (`takeE` and `take`, `lengthE` and

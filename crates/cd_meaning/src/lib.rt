@@ -12,7 +12,7 @@ ghost use Rattle.cd_meaning.specs.TakeForm.{front_effects, front_ending, take_sc
 
 pub use laws::{
     equal_words, need_bound, opens_once, plain_forms, plain_fusion, plain_utf8, prefix_law,
-    seen_at_places, weave_associativity,
+    seen_at_places, sequence_associativity, weave_associativity,
 };
 
 /// What `run sourceFile "NAME" | takeE N | stdout;` means, for every name, every N and whatever is seen of the file:

@@ -1,8 +1,8 @@
 -- The rows of Table 3-7 are the bytes of characters.
-use Rattle.std.proofs.Common.{◌≡◌, ℕ, suc, ◌+◌, ◌-◌, ◌*◌, ◌/◌, ◌%◌, ◌<◌, ◌≤◌, ◌⊎◌, inl, inr, Bool, true, false, ◌==◌, nat_lt, nat_le, ◌&&◌, if◌then◌else◌, List, [], ◌∷◌, ◌++◌, length, map, Option, Some, None, refl, ap, sym, ◌∙◌, subst, arith}
-use Rattle.std.proofs.lemmas.Bool.{cases_lt, cases_eq, le-ltb, lt-ltb, le-leb, leb-true, eq-eqb, ne_eqb}
+use Rattle.std.proofs.Common.{◌≡◌, ℕ, ◌+◌, ◌-◌, ◌*◌, ◌/◌, ◌%◌, ◌<◌, ◌≤◌, ◌⊎◌, inl, inr, true, ◌==◌, nat_lt, if◌then◌else◌, List, [], ◌∷◌, Some, None, subst, arith}
+use Rattle.std.proofs.lemmas.Bool.{cases_lt, cases_eq, le-ltb, lt-ltb, le-leb, eq-eqb, ne_eqb}
 use lib.Utf8.{encode, scalar, low_scalar}
-use Rattle.cd_meaning.specs.Text.{Range, range, is_in, tail, following}
+use Rattle.cd_meaning.specs.Text.{Range, range, tail, following}
 
 -- each byte is in its range
 abbrev pub InRanges : List Range → List ℕ → Type 0

@@ -1,15 +1,15 @@
 -- The splitters are what the rules say of whole lists.
-use Rattle.std.proofs.Common.{◌≡◌, ℕ, zero, suc, ◌+◌, ◌*◌, ◌/◌, ◌<◌, ◌≤◌, min, ◌⊎◌, inl, inr, Bool, true, false, ◌==◌, if◌then◌else◌, List, [], ◌∷◌, ◌++◌, length, map, take, drop, refl, ap, sym, ◌∙◌, subst, arith, append_assoc, length-append}
+use Rattle.std.proofs.Common.{◌≡◌, ℕ, zero, suc, ◌+◌, ◌*◌, ◌/◌, ◌<◌, ◌≤◌, min, ◌⊎◌, inl, inr, Bool, true, false, ◌==◌, if◌then◌else◌, List, [], ◌∷◌, ◌++◌, length, map, take, drop, refl, ap, sym, ◌∙◌, arith, append_assoc, length-append}
 use Rattle.std.proofs.Math.Nat.{div-eq_of_lt, div-zero, add-div_right}
 use Rattle.std.proofs.lemmas.Bool.{eqb-true, eqb-false}
 use Rattle.std.proofs.lemmas.List.{append-nil, take_at, drop_at, drop-drop}
 use Rattle.std.proofs.lemmas.List.Splits.{slice_split-cons_yes, slice_split-cons_no, length-slice_split}
-use Rattle.std.specs.List.{range_with_len, slice_split, onto_first, count_by}
+use Rattle.std.specs.List.{range_with_len, slice_split, onto_first}
 use Rattle.cd_meaning.specs.Stream.{Item, Piece, Value, End, Ended, Halted, Out}
-use Rattle.cd_meaning.specs.Run.{Stamp, stamp, at_need, Run, Then, Ends, Component, outs_at, past}
+use Rattle.cd_meaning.specs.Run.{Stamp, stamp, at_need, Run, Then, Component, outs_at, past}
 use Rattle.cd_meaning.specs.RunShapes.{number, piece}
 use Rattle.cd_meaning.specs.Splitters.{no_piece, short_piece, grouped, exact, chunks_of, line_end, lines_from, split}
-use Rattle.cd_meaning.specs.PlainSplitters.{PieceAt, comes_at, whole_pieces, short_rest, rest_piece, all_pieces, line_pieces, pieces_of_lines, pieces_out, known_of, gives_pieces, plain_exact, plain_chunks_of, plain_split}
+use Rattle.cd_meaning.specs.PlainSplitters.{PieceAt, comes_at, whole_pieces, short_rest, rest_piece, all_pieces, line_pieces, pieces_of_lines, pieces_out, gives_pieces, plain_exact, plain_chunks_of, plain_split}
 use Rattle.cd_meaning.specs.Laws.{cut, IsRun}
 use Rattle.cd_meaning.proofs.Runs.Splitters.{grouped_is_run, split_is_run}
 

@@ -1,15 +1,15 @@
 -- A text of characters is read as these characters.
-use Rattle.std.proofs.Common.{◌≡◌, ℕ, suc, ◌+◌, ◌-◌, ◌*◌, ◌/◌, ◌%◌, ◌<◌, ◌≤◌, ◌⊎◌, inl, inr, Bool, true, false, ◌==◌, nat_lt, nat_le, ◌&&◌, if◌then◌else◌, List, [], ◌∷◌, ◌++◌, length, map, Option, Some, None, refl, ap, sym, ◌∙◌, subst, arith, encode_utf8, append_assoc, length-append}
+use Rattle.std.proofs.Common.{◌≡◌, ℕ, suc, ◌+◌, ◌/◌, ◌%◌, ◌<◌, ◌≤◌, ◌⊎◌, inl, inr, Bool, true, false, nat_le, ◌&&◌, if◌then◌else◌, List, [], ◌∷◌, ◌++◌, length, map, Option, Some, None, refl, ap, sym, ◌∙◌, subst, arith, append_assoc, length-append}
 use Rattle.std.specs.Str.{encode_utf8_all, all_scalars}
 use Rattle.std.proofs.lemmas.Bool.{cases_lt, cases_eq, le-ltb, lt-ltb, le-leb, leb-true, eq-eqb, ne_eqb}
 use Rattle.std.proofs.lemmas.List.{append-nil, map-append}
 use lib.Utf8.{encode, scalar, scalar_cases}
-use Rattle.cd_meaning.specs.Stream.{Item, Elem, Value, bad_text, Stop, End, Ended, Halted, Halts, Out}
+use Rattle.cd_meaning.specs.Stream.{Item, Elem, Value, bad_text, Stop, End, Ended, Halts, Out}
 use Rattle.cd_meaning.specs.Run.{stamp, Run, Then, Ends, past}
-use Rattle.cd_meaning.specs.RunShapes.{number, as_count}
+use Rattle.cd_meaning.specs.RunShapes.{as_count}
 use Rattle.cd_meaning.specs.Text.{Range, range, is_in, tail, following, first_bits, more_bits, read_on, read_byte, utf8_from, utf8, lenient_from, utf8_lenient}
 use Rattle.cd_meaning.specs.PlainText.{characters_out, bytes_of, plain_text, IsUnfinished, BeginNone, refused_behind}
-use Rattle.cd_meaning.proofs.Runs.ByteRows.{InRanges, AllSome, IsCharacter, IsRow, row_of}
+use Rattle.cd_meaning.proofs.Runs.ByteRows.{InRanges, AllSome, row_of}
 
 -- these bytes are in the ranges, one for each, and end the bits of a character
 abbrev Fits : List Range → ℕ → List ℕ → ℕ → Type 0

@@ -18,7 +18,7 @@ use Rattle.cd_meaning.proofs.Lawful.Trees.{tree_is_lawful}
 third_site : (s : ℕ) (a b : Meaning) → s + length (a.places ++ b.places) ≡ (s + length a.places) + length b.places
 third_site s a b = omega (arith, length-append a.places b.places)
 
-piped_grouped : (a b c : Meaning) → IsLawful b → IsLawful c → (flow : Flow) (site : ℕ) (seen : Seen) (xs : List Item) (e : End)
+pub piped_grouped : (a b c : Meaning) → IsLawful b → IsLawful c → (flow : Flow) (site : ℕ) (seen : Seen) (xs : List Item) (e : End)
     → (piped (piped a b) c).run flow site seen xs e ≡ (piped a (piped b c)).run flow site seen xs e
 piped_grouped a b c kb kc flow site seen xs e =
     let first = a.run flow site seen in

@@ -1,10 +1,10 @@
 -- Fusion is what the rules say by A[j].
-use Rattle.std.proofs.Common.{◌≡◌, ℕ, zero, suc, ◌+◌, ◌≤◌, nat_le, Bool, true, false, not, if◌then◌else◌, List, [], ◌∷◌, length, drop, refl, ap, sym, ◌∙◌, arith}
+use Rattle.std.proofs.Common.{◌≡◌, ℕ, zero, suc, ◌+◌, nat_le, if◌then◌else◌, List, [], length, refl, ap, sym, ◌∙◌, arith}
 use Rattle.std.proofs.lemmas.List.{drop_all}
 use Rattle.std.proofs.lemmas.Bool.{le-leb, lt-leb}
-use Rattle.cd_meaning.specs.Stream.{Item, Value, End, Done, Halts, Act, Out, Do}
+use Rattle.cd_meaning.specs.Stream.{Item, Value, End, Done, Halts, Out, Do}
 use Rattle.cd_meaning.specs.Run.{Stamp, start, Run, Then, Ends, Component, outs, last, ending}
-use Rattle.cd_meaning.specs.Fusion.{effects_to, between, after, place, woven, kept_stamps, fed, fuse, fuse_by, fuse_keep, outs_between, returned, fuse_return, drain, drained, fuse_drained, asked, told, fuse_asked}
+use Rattle.cd_meaning.specs.Fusion.{effects_to, between, after, place, woven, kept_stamps, fed, fuse, fuse_by, fuse_keep, outs_between, fuse_return, drain, drained, fuse_drained, asked, fuse_asked}
 use Rattle.cd_meaning.specs.PlainFusion.{acts, up_to, effects_up_to, last_stamp, stamp_up_to, with_acts, due, in_order, with_value, plain_fuse, plain_fuse_by, plain_fuse_keep, plain_fuse_return, plain_fuse_asked, plain_fuse_drained}
 use Rattle.cd_meaning.proofs.Runs.Shapes.{nat_le_suc}
 

@@ -1,11 +1,11 @@
 -- A zip of two runs is what the rule says of their acts.
-use Rattle.std.proofs.Common.{◌≡◌, ℕ, zero, suc, ◌+◌, ◌≤◌, ◌<◌, ◌⊎◌, inl, inr, max, Bool, true, false, ◌==◌, List, [], ◌∷◌, ◌++◌, length, refl, ap, sym, ◌∙◌, arith}
-use Rattle.std.proofs.lemmas.Bool.{le-leb, lt-leb, cases_lt, cases_eq, eq-eqb, ne_eqb}
-use Rattle.std.specs.List.{filter, flat_map, range_with_len}
-use Rattle.cd_meaning.specs.Stream.{Item, Value, Halt, End, Done, Halts, Act}
+use Rattle.std.proofs.Common.{◌≡◌, ℕ, zero, suc, ◌+◌, ◌≤◌, ◌<◌, inl, inr, max, List, [], ◌∷◌, ◌++◌, length, refl, ap, sym, ◌∙◌, arith}
+use Rattle.std.proofs.lemmas.Bool.{cases_lt, cases_eq, eq-eqb, ne_eqb}
+use Rattle.std.specs.List.{flat_map, range_with_len}
+use Rattle.cd_meaning.specs.Stream.{Item, Halt, End, Done, Halts, Act}
 use Rattle.cd_meaning.specs.Run.{Stamp, Run, Then, Ends, Component, at_need, ending, last}
 use Rattle.cd_meaning.specs.Zips.{merge, zip_sink}
-use Rattle.cd_meaning.specs.PlainZips.{Deed, Does, Stops, DeedAt, deed_at, deeds, of_need, by_need, does_so, both_endings, plain_merge, plain_zip}
+use Rattle.cd_meaning.specs.PlainZips.{Does, Stops, DeedAt, deed_at, deeds, of_need, by_need, does_so, both_endings, plain_merge, plain_zip}
 use Rattle.cd_meaning.specs.Laws.{Rising, EachStamp, IsStamp, IsRun}
 use Rattle.cd_meaning.proofs.Rising.{rising_less}
 use Rattle.cd_meaning.proofs.Stamps.{each_stamp}

@@ -1,5 +1,5 @@
 -- The splitters as the rules say them, each on an empty input, one that ends and one that waits.
-use Rattle.std.specs.Prelude.{◌≡◌, List, ℕ, refl, [], ◌∷◌, codes, map}
+use Rattle.std.specs.Prelude.{◌≡◌, List, ℕ, refl, [], codes, map}
 use Rattle.cd_meaning.specs.Stream.{Item, Elem, Ended}
 use Rattle.cd_meaning.specs.PlainSplitters.{plain_chunks_of, plain_exact, plain_split}
 use Rattle.cd_meaning.specs.Rows.Given.{at_end, gives_piece, late_piece, waiting, waits_past}

@@ -1,5 +1,5 @@
 -- Two parts on one input as the rule says it: whose act comes first, how they end, and where one stops.
-use Rattle.std.specs.Prelude.{◌≡◌, List, ℕ, refl, [], ◌∷◌, codes, map}
+use Rattle.std.specs.Prelude.{◌≡◌, List, ℕ, refl, [], codes, map}
 use Rattle.cd_meaning.specs.Stream.{Item, Elem, Ended, Value, bad_hex}
 use Rattle.cd_meaning.specs.ElementWords.{counted, passed, taken}
 use Rattle.cd_meaning.specs.Base.{hex_decode}
