@@ -14,7 +14,7 @@ mod word_results;
 mod word_sites;
 
 pub use chains::{chain_bound, chain_type, put_type, refused_in_chain};
-pub use flows::piece_bound;
+pub use flows::{join, piece_bound};
 pub use forms::{
     mark_type, refused_by_cuts, refused_in_tee, refused_in_zip_conduit_second, refused_in_zip_sink,
     refused_in_zip_source, refused_in_zip_source_second, refused_on_elements, refused_on_nothing,

@@ -1,5 +1,5 @@
 // A script that has a type.
-ghost use Rattle.std.specs.Prelude.{◌≡◌, ◌≤◌, ◌<◌, List, [], map, length, position, IfSome, IsTrue, is_some, option_map, option_and_then};
+ghost use Rattle.std.specs.Prelude.{◌≡◌, ◌≤◌, ◌<◌, List, [], map, count_by, length, position, IfSome, IsTrue, is_some, option_map, option_and_then};
 ghost use Rattle.std.specs.Option.{option_copied};
 ghost use Rattle.cd_elem.specs.declared.script.Stmt.{Stmt};
 ghost use Rattle.cd_meaning.specs.LawfulTrees.{IsLawfulScript};
@@ -7,7 +7,7 @@ ghost use Rattle.cd_meaning.specs.Scripts.{script_places};
 ghost use Rattle.cd_part_types.specs.Types.{type_of};
 ghost use Rattle.cd_types.specs.Limits.{site_limit, statement_limit, total_limit};
 ghost use Rattle.cd_types.specs.Moments.{reached_by};
-ghost use Rattle.cd_types.specs.Numbering.{key_named, key_number, numbered, part_at, script_sites, seal_named, seal_number, site_number, stands_at};
+ghost use Rattle.cd_types.specs.Numbering.{first_site, is_before, key_named, key_number, numbered, part_at, script_sites, seal_named, seal_number, site_number, stands_at};
 ghost use Rattle.cd_meaning.specs.Scoped.{IsScoped};
 ghost use Rattle.cd_types.specs.Sites.{are_apart};
 ghost use Rattle.cd_types.specs.Statements.{bounds_of, key_names, script_moments, script_types, seal_names, statement_of};
@@ -70,6 +70,17 @@ fn site_place(sites: &[SiteInfo], statement: u32, part: u32) -> Option<usize>
     sites
         .iter()
         .position(|site| site.statement == statement && site.part == part)
+}
+
+/// How many of these sites stand before this statement.
+fn sites_before(sites: &[SiteInfo], statement: u32) -> usize
+    ensures count { result ≡ count_by (λ site. is_before statement (site_of site)) sites.now }
+    ensures within { result ≤ length sites.now }
+{
+    sites
+        .iter()
+        .filter(|site| site.statement < statement)
+        .count()
 }
 
 impl Typed {
@@ -148,6 +159,16 @@ impl Typed {
             Some(place) => Some(Site(counted(place + 1))),
             None => None,
         }
+    }
+
+    /// The first site of a statement, where it has one: it is behind those of the statements before.
+    pub fn first_site(&self, statement: u32) -> Site
+        ensures { (script : List Stmt) → IsTyped script self.now → result.0 ≡ first_site script statement }
+    {
+        typed_scripts();
+        numbering();
+        let before = sites_before(self.sites.as_slice(), statement);
+        Site(counted(before + 1))
     }
 
     /// The number, from 0, of the seal that a statement defines or uses. None where it has none.

@@ -1,5 +1,7 @@
 pub mod Apart
 pub mod DefinedNames
+pub mod FirstSites
+pub mod Fitting
 pub mod FormFacts
 pub mod LawfulParts
 pub mod Limits
@@ -7,6 +9,7 @@ pub mod Numbered
 pub mod Numbers
 pub mod PartFacts
 pub mod Passing
+pub mod RunStatements
 pub mod ScopedNames
 pub mod ScriptFacts
 pub mod StandingNames

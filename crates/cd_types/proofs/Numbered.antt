@@ -29,7 +29,7 @@ place_before : (s n : ℕ) (o : Option Place) (more : List ScriptSite) → map (
 place_before s n None more = refl
 place_before s n (Some p) more = refl
 
-their_places : (ms : List Moment) → map (λ (site : ScriptSite). site.place) (moment_sites ms) ≡ sites_in ms
+pub their_places : (ms : List Moment) → map (λ (site : ScriptSite). site.place) (moment_sites ms) ≡ sites_in ms
 their_places [] = refl
 their_places (m ∷ ms) = place_before m.statement m.part m.site (moment_sites ms) ∙ ap (λ l. site_list m.site ++ l) (their_places ms)
 

@@ -22,19 +22,19 @@ pipe_adds p s f asked =
     let b = (pipe_facts p).bounds s 1 f in
     omega arith
 
-of_statement : (s : Stmt) (k : ℕ) (before : List Statement) → sites_in (statement_moments k before (statement_of s)) ≡ statement_places s
-of_statement (Stmt.Run p) k before = pipe_places p k _ run_fails
-of_statement (Stmt.Seal name p) k before = pipe_places p k _ let_fails
-of_statement (Stmt.Feed name p) k before = pipe_places p k (seal_flow before name) feed_fails
-of_statement (Stmt.CloseSeal name p) k before = pipe_places p k (seal_flow before name) run_fails
-of_statement (Stmt.Hold name file) k before = refl
-of_statement (Stmt.Release name) k before = refl
+pub places_of_statement : (s : Stmt) (k : ℕ) (before : List Statement) → sites_in (statement_moments k before (statement_of s)) ≡ statement_places s
+places_of_statement (Stmt.Run p) k before = pipe_places p k _ run_fails
+places_of_statement (Stmt.Seal name p) k before = pipe_places p k _ let_fails
+places_of_statement (Stmt.Feed name p) k before = pipe_places p k (seal_flow before name) feed_fails
+places_of_statement (Stmt.CloseSeal name p) k before = pipe_places p k (seal_flow before name) run_fails
+places_of_statement (Stmt.Hold name file) k before = refl
+places_of_statement (Stmt.Release name) k before = refl
 
 of_statements : (before : List Statement) (script : List Stmt) → sites_in (moments_behind before (map statement_of script)) ≡ script_places script
 of_statements before [] = refl
 of_statements before (s ∷ more) =
     sites_append (statement_moments (length before + 1) before (statement_of s)) _
-    ∙ ap (λ l. l ++ sites_in (moments_behind (before ++ statement_of s ∷ []) (map statement_of more))) (of_statement s (length before + 1) before)
+    ∙ ap (λ l. l ++ sites_in (moments_behind (before ++ statement_of s ∷ []) (map statement_of more))) (places_of_statement s (length before + 1) before)
     ∙ ap (λ l. statement_places s ++ l) (of_statements (before ++ statement_of s ∷ []) more)
 
 pub sites_are_places : (script : List Stmt) → (reached_by (script_moments script)).sites ≡ script_places script

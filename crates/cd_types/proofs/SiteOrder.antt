@@ -172,6 +172,18 @@ of_statement (Stmt.CloseSeal name p) k before = of_pipe p k (seal_flow before na
 of_statement (Stmt.Hold name file) k before = record { high = 1; rise = (refl, omega arith, omega arith, tt) }
 of_statement (Stmt.Release name) k before = record { high = 0; rise = tt }
 
+-- all of this statement
+abbrev pub AllAt : ℕ → List ScriptSite → Type 0
+AllAt k [] = Unit {0}
+AllAt k (x ∷ more) = (x.statement ≡ k) × AllAt k more
+
+all_at : (k low high : ℕ) (xs : List ScriptSite) → Rising k low high xs → AllAt k xs
+all_at k low high [] h = tt
+all_at k low high (x ∷ xs) h = (h.0, all_at k (x.part + 1) high xs h.3)
+
+pub sites_at_statement : (s : Stmt) (k : ℕ) (before : List Statement) → AllAt k (moment_sites (statement_moments k before (statement_of s)))
+sites_at_statement s k before = let own = of_statement s k before in all_at k 0 own.high (moment_sites (statement_moments k before (statement_of s))) own.rise
+
 -- ---- scripts
 
 abbrev AllFrom : ℕ → List ScriptSite → Type 0

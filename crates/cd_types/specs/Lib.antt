@@ -1,6 +1,7 @@
 pub mod Cases
 pub mod Chains
 pub mod Conditions
+pub mod Fitting
 pub mod Flows
 pub mod Forms
 pub mod Limits

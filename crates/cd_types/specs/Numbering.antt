@@ -1,7 +1,8 @@
 -- The sites, seals and keys of a script by their numbers, and the types of its parts.
-use Rattle.std.specs.Prelude.{ℕ, zero, suc, ◌+◌, ◌==◌, Bool, ◌&&◌, bytes_eq, List, [], ◌∷◌, position, slice_get, Option, Some, None, option_map, option_and_then}
+use Rattle.std.specs.Prelude.{◌≡◌, ℕ, zero, suc, ◌+◌, ◌==◌, nat_lt, Bool, ◌&&◌, bytes_eq, List, [], ◌∷◌, length, take, position, slice_get, Option, Some, None, option_map, option_and_then}
 use Rattle.cd_elem.specs.declared.script.Stmt.{Stmt}
 use Rattle.cd_meaning.specs.Places.{Place}
+use Rattle.cd_meaning.specs.Scripts.{script_places}
 use Rattle.cd_types.specs.Flows.{PartType}
 use Rattle.cd_types.specs.Moments.{Moment}
 use Rattle.cd_types.specs.Statements.{Statement, Run, Let, Feed, CloseSeal, Hold, Release, script_moments, script_types, seal_names, key_names}
@@ -47,6 +48,20 @@ stands_at s n site = (site.statement == s) && (site.part == n)
 -- the number of the site that stands there, counted from 1
 abbrev pub site_number : List Stmt → ℕ → ℕ → Option ℕ
 site_number script s n = option_map (λ place. place + 1) (position (stands_at s n) (script_sites script))
+
+-- the number of the first site of a statement, where it has one, behind those of the statements before it
+abbrev pub first_site : List Stmt → ℕ → ℕ
+first_site script zero = 1
+first_site script (suc n) = length (script_places (take n script)) + 1
+
+-- the statement that a site is of stands before this one
+abbrev pub is_before : ℕ → ScriptSite → Bool
+is_before s site = nat_lt site.statement s
+
+-- these places stand at the numbers from this one on
+abbrev pub StandFrom : (ℕ → Place) → ℕ → List Place → Type 0
+StandFrom place s [] = Unit {0}
+StandFrom place s (p ∷ more) = (place s ≡ p) × StandFrom place (s + 1) more
 
 -- ---- seals and keys
 

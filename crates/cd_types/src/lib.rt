@@ -6,5 +6,5 @@
 mod laws;
 mod refusal;
 
-pub use laws::{agreement, definitions, judging, numbering, typed_scripts};
+pub use laws::{agreement, definitions, judging, numbering, parts_fit, typed_scripts};
 pub use refusal::{Refusal, RefusalKind};

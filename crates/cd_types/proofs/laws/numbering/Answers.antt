@@ -1,3 +1,4 @@
+use Rattle.cd_types.proofs.FirstSites.{first_is_behind, places_stand, within_sites}
 use Rattle.cd_types.proofs.Numbered.{further_sites, places_of_sites, same_seals, same_keys, few_seals, few_keys, known_seals, known_keys}
 use Rattle.cd_types.proofs.SiteOrder.{own_number}
 use Rattle.cd_types.proofs.laws.numbering.Goals as goal
@@ -10,6 +11,15 @@ returns-clause-further c = λ ms ns. further_sites ms ns
 
 pub returns-clause-own_number : goal.returns-clause-own_number
 returns-clause-own_number c = λ script i site at. own_number script i site at
+
+pub returns-clause-first : goal.returns-clause-first
+returns-clause-first c = first_is_behind
+
+pub returns-clause-stand : goal.returns-clause-stand
+returns-clause-stand c = places_stand
+
+pub returns-clause-within : goal.returns-clause-within
+returns-clause-within c = within_sites
 
 pub returns-clause-seals : goal.returns-clause-seals
 returns-clause-seals c = λ script. same_seals script
