@@ -1,5 +1,5 @@
-mod FollowMoves
-mod FollowTurns
-mod FuseMoves
-mod FuseTurns
-mod Sound
+pub mod FollowMoves
+pub mod FollowTurns
+pub mod FuseMoves
+pub mod FuseTurns
+pub mod Sound

@@ -1,2 +1,4 @@
 pub mod Follows
 pub mod Fuses
+pub mod PartSites
+pub mod Rows

@@ -3,6 +3,8 @@
 
 mod follow;
 mod fuse;
+mod laws;
 
 pub use follow::Follow;
 pub use fuse::{Fuse, Upstream};
+pub use laws::{fusion_sites, sequence_sites};

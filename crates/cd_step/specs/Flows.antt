@@ -1,5 +1,6 @@
 -- What a controller owes after a move of one of its parts.
-use Rattle.std.specs.Prelude.{◌≡◌, ◌<◌, ◌≤◌, ◌+◌, ℕ, Bool, true, false, [], ◌++◌, Option, Some, None}
+use Rattle.std.specs.Prelude.{◌≡◌, ◌<◌, ◌≤◌, ◌+◌, ℕ, Bool, true, false, [], ◌++◌, length, Option, Some, None}
+use Rattle.cd_elem.specs.Chunks.{HasSize}
 use Rattle.cd_elem.specs.declared.kind.Kind.{Kind}
 use Rattle.cd_elem.specs.declared.value.Value.{Value as Result}
 use Rattle.cd_meaning.specs.Stream.{Value, absent, present}
@@ -113,7 +114,7 @@ FlowLaw whole is_at fits left p n c (Finish m f) a b =
     × ((w : Result) (r : Option Chunk) (a' b' : Part) → value_meaning w ≡ made_of m → IsBack f a b a' b' r → Retired a a' → Retired b b' → Goes (Done w r) p (whole c a' b') × is_at c a' b' × Kept p (whole c a' b') × IsHeld (whole c a' b'))
     × Kept p (whole c a b) × IsHeld (whole c a b)
 FlowLaw whole is_at fits left p n c (Glue x y) a b =
-    (y.0 ≡ x.0) × ((d : Chunk) → IsGlued x y d → Goes (Emit d) p (whole c a b)) × is_at c a b × Kept p (whole c a b) × IsHeld (whole c a b)
+    (y.0 ≡ x.0) × HasSize x.0 (length x.1 + length y.1) × ((d : Chunk) → IsGlued x y d → Goes (Emit d) p (whole c a b)) × is_at c a b × Kept p (whole c a b) × IsHeld (whole c a b)
 
 -- ---- copies
 
