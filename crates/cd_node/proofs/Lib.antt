@@ -1,5 +1,15 @@
+pub mod Controls
 pub mod Ended
+pub mod Ending
 pub mod Held
+pub mod Making
+pub mod Marked
+pub mod Marking
+pub mod Passing
+pub mod PlainWords
 pub mod Sinking
 pub mod Sourcing
 pub mod Tickets
+pub mod Trees
+pub mod Turning
+pub mod Words

@@ -1,5 +1,11 @@
+pub mod Controls
+pub mod Makes
+pub mod Marks
 pub mod Nodes
+pub mod PlainWords
 pub mod Ports
 pub mod Rows
 pub mod Sinks
 pub mod Sources
+pub mod Trees
+pub mod Turns

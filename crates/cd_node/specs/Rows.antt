@@ -1,20 +1,26 @@
 -- The words with sites worked by hand over small inputs, move by move.
 use Rattle.std.specs.Prelude.{◌≡◌, refl, ℕ, true, List, [], map, Some, None, codes}
+use Rattle.cd_elem.specs.declared.value.Value.TheVariants as result
 use Rattle.cd_meaning.specs.Known.{known, nothing_known}
 use Rattle.cd_meaning.specs.Run.{start, stamp, Run, Then, Ends}
 use Rattle.cd_meaning.specs.RunShapes.{Mark, AtEnd, MayGoOn, Broken, TooLong, Seen}
 use Rattle.cd_meaning.specs.Stream.{Elem, Value, Sort, Done, Halts, More, Stop, Reading, ReadBad, Long, Ended, Out, Do, Open, Put, Close}
+use Rattle.cd_meaning.specs.Values.{value_meaning}
 use Rattle.cd_step.specs.Parts.{Part, rest}
 use Rattle.cd_step.specs.Parts as parts
 use Rattle.cd_scope.specs.Calls.{site_at}
 use Rattle.cd_scope.specs.declared.table.Ticket.{Ticket}
+use Rattle.cd_node.specs.Marks.{mark_part}
 use Rattle.cd_node.specs.Nodes.{fed_node}
 use Rattle.cd_node.specs.Sinks.{sink_part, sink_at, sink_rest}
 use Rattle.cd_node.specs.Sources.{source_part}
 use Rattle.cd_node.specs.declared.port.Medium.TheVariants.{File, Standard}
+use Rattle.cd_node.specs.declared.mark.MarkStand.{MarkStand}
+use Rattle.cd_node.specs.declared.mark.MarkStand.TheVariants as marks
 use Rattle.cd_node.specs.declared.protocol.NodeInput.TheVariants as given
 use Rattle.cd_node.specs.declared.sink.SinkStand.{SinkStand}
 use Rattle.cd_node.specs.declared.sink.SinkStand.TheVariants as sinks
+use Rattle.cd_node.specs.declared.source.SourceStand.{SourceStand}
 use Rattle.cd_node.specs.declared.source.SourceStand.TheVariants as sources
 
 -- the ticket of site 1, at descriptor 4
@@ -106,3 +112,29 @@ sink_closing = refl
 
 output_run : (sink_part parts.Fresh 1 None (sink_rest Standard sinks.Fresh 1)).run nothing_known (map Elem (codes "a")) Ended ≡ Then (stamp 1 1) (Do (Put 1 97)) (Ends (stamp 2 1) (Done Value.Unit))
 output_run = refl
+
+-- ---- `mark` at site 2 round a source at site 1 of a file that holds `ab`
+
+abbrev bracket : MarkStand → SourceStand → Part
+bracket stand inner = mark_part stand 2 None (source_part File inner 1 None)
+
+-- its file is made before the body opens its own, and removed behind the close of that
+mark_run : run_of (bracket marks.Fresh sources.Fresh) (seen (codes "a") AtEnd)
+    ≡ Then start (Do (Open 2)) (Then start (Do (Open 1)) (Then start (Out (Elem 97)) (Then start (Do (Close 1)) (Then start (Do (Close 2)) done))))
+mark_run = refl
+
+-- `Acquire 2` leaves the body and the removal
+mark_opening : run_of (bracket marks.Opening sources.Fresh) (seen (codes "a") AtEnd)
+    ≡ Then start (Do (Open 1)) (Then start (Out (Elem 97)) (Then start (Do (Close 1)) (Then start (Do (Close 2)) done)))
+mark_opening = refl
+
+-- a body that halts is not left: its file stays
+mark_halts : run_of (bracket marks.Body sources.Reading) (seen (codes "a") Broken) ≡ Then start (Out (Elem 97)) (Ends start (Halts (Stop (ReadBad 1))))
+mark_halts = refl
+
+-- the body has ended with 5, and gave `xy` back: `Release`, and then that
+mark_closing : run_of (bracket (marks.Closing (result.Num 5) (Some (Sort.Bytes, codes "xy"))) sources.Over) nothing_known ≡ Ends start (Done (value_meaning (result.Num 5)))
+mark_closing = refl
+
+mark_gives_back : (bracket (marks.Closing (result.Num 5) (Some (Sort.Bytes, codes "xy"))) sources.Over).unread ≡ map Elem (codes "xy")
+mark_gives_back = refl

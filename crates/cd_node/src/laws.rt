@@ -1,5 +1,5 @@
 // Laws of nodes. Each is the contract of a function that does nothing.
-ghost use Rattle.std.specs.Prelude.{◌≡◌, ◌≢◌, ◌++◌, ◌∷◌, [], ℕ, Contains, List};
+ghost use Rattle.std.specs.Prelude.{◌≡◌, ◌≢◌, ◌+◌, ◌++◌, ◌∷◌, [], ℕ, Contains, List};
 ghost use Rattle.cd_meaning.specs.Known.{known};
 ghost use Rattle.cd_meaning.specs.Places.{Place};
 ghost use Rattle.cd_meaning.specs.RunShapes.{Seen, Told};
@@ -7,18 +7,31 @@ ghost use Rattle.cd_scope.specs.Calls.{held_at};
 ghost use Rattle.cd_scope.specs.Table.{IsHeldBy};
 ghost use Rattle.cd_scope.specs.declared.table.Held.{Held as HeldItem};
 ghost use Rattle.cd_scope.specs.declared.table.Ticket.{Ticket as TicketSeen};
-ghost use Rattle.cd_step.specs.Parts.{IsSound, Kept, Part, site};
+ghost use Rattle.cd_step.specs.Parts.{IsHeld, IsSound, Kept, Part, site};
+ghost use Rattle.cd_node.specs.Marks.{mark_stands, whole_mark};
 ghost use Rattle.cd_node.specs.Nodes.{AreHeld, Closing, Ignores, Waiting, fed_node};
 ghost use Rattle.cd_node.specs.Sinks.{seen_sink, sink_fits};
 ghost use Rattle.cd_node.specs.Sources.{seen_source, source_fits};
+ghost use Rattle.cd_node.specs.Trees.{IsWell, bound_of, chunks_of, seen};
+ghost use Rattle.cd_node.specs.declared.mark.Mark.{Mark as MarkSeen};
+ghost use Rattle.cd_node.specs.declared.node.Node.{Node as NodeSeen};
 ghost use Rattle.cd_node.specs.declared.protocol.NodeInput.TheVariants as given;
 ghost use Rattle.cd_node.specs.declared.sink.Sink.{Sink as SinkSeen};
 ghost use Rattle.cd_node.specs.declared.source.Source.{Source as SourceSeen};
 
-/// What holds of every part holds of the words with sites, between any two steps.
+/// What holds of every part holds of the words with sites, and of a bracket round a part, between any two steps.
 pub fn sound_leaves()
     ensures sources { (l : SourceSeen) → source_fits l → IsSound (seen_source l) }
     ensures sinks { (l : SinkSeen) → sink_fits l → IsSound (seen_sink l) }
+    ensures brackets { (m : MarkSeen) (p : Part) → mark_stands m → IsSound p → IsSound (whole_mark m p) }
+{}
+
+/// What holds of every part holds of every node between two steps, and it holds what its room allows: what its words may
+/// carry, and one chunk for each.
+pub fn sound_nodes()
+    ensures sound { (n : NodeSeen) → IsWell n → IsSound (seen n) }
+    ensures held { (n : NodeSeen) → IsWell n → IsHeld (seen n) }
+    ensures room { (n : NodeSeen) → (seen n).room ≡ bound_of n + chunks_of n }
 {}
 
 /// Once the end of a site was told, what is left is the same whatever is to come there; and a part of which that is so
