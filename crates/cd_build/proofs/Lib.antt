@@ -1,0 +1,11 @@
+pub mod BuiltRows
+pub mod Chains
+pub mod Halving
+pub mod Marks
+pub mod Outputs
+pub mod Rows
+pub mod Sequences
+pub mod Trees
+pub mod TypedWords
+pub mod WordNodes
+pub mod Nodes
