@@ -1,1 +1,2 @@
+pub mod LeafSteps
 pub mod OpenMarks
