@@ -4,7 +4,7 @@ use Rattle.std.proofs.lemmas.Bool.{eq-eqb}
 use Rattle.cd_elem.specs.declared.value.Value.{Value as Result}
 use Rattle.cd_meaning.specs.Known.{known, nothing_known}
 use Rattle.cd_meaning.specs.Laws.{Rising}
-use Rattle.cd_meaning.specs.Places.{Place, Reads as ReadsFile, ReadsInput, Writes as WritesFile, WritesOutput, Marks}
+use Rattle.cd_meaning.specs.Places.{Place, Marks}
 use Rattle.cd_meaning.specs.Rest.{Moves, over, marking}
 use Rattle.cd_meaning.specs.Run.{last}
 use Rattle.cd_meaning.specs.RunShapes.{Told, Seen}
@@ -14,7 +14,7 @@ use Rattle.cd_meaning.proofs.Follow.{follow_rising}
 use Rattle.cd_meaning.proofs.Moves.Fused.{IsGrade}
 use Rattle.cd_meaning.proofs.Moves.Marks.{mark_opens, mark_moves, mark_gets, mark_gets_end, mark_closes, mark_asks, mark_stuck, over_finishes}
 use Rattle.cd_meaning.proofs.Rising.{le_self, rising_less}
-use Rattle.cd_scope.specs.Uses.{HasFile, ReadsAt, WritesAt}
+use Rattle.cd_scope.specs.Uses.{HasFile}
 use Rattle.cd_scope.specs.declared.table.Ticket.{Ticket}
 use Rattle.cd_step.specs.Flows.{Same, Retires}
 use Rattle.cd_step.specs.Parts.{At, Chunk as ChunkSeen, Part, IsGiven, IsHeld, IsReads, IsSound, IsUnbegun, Kept, fed, items, outs_of, rest, rest_items, weigh, weight_any}
@@ -37,7 +37,7 @@ use Rattle.cd_node.specs.declared.protocol.NodeInput.{NodeInput}
 use Rattle.cd_node.specs.declared.protocol.NodeInput.TheVariants as given
 use Rattle.cd_node.specs.declared.protocol.NodeMove.{NodeMove}
 use Rattle.cd_node.specs.declared.protocol.NodeMove.TheVariants.{Emit, Need, Acquire, Read, Write, Release, Done, Fault}
-use Rattle.cd_node.proofs.Tickets.{none_had, ticket_own, ticket_site}
+use Rattle.cd_node.proofs.Tickets.{none_had, reads_by, ticket_own, ticket_site, writes_by}
 
 -- ---- where it stands
 
@@ -198,20 +198,6 @@ inner_turn i m p e f a =
     (r.0, (e, r.1), subst (λ x. Same (fed_node i (mark_part x s k p)) (mark_part x s k (fed_node i p))) (sym e) r.2)
 
 -- ---- what the body does
-
-reads_by : (p : Place) (d : ℕ) (A B : Type 0) → (A → B) → ReadsAt p d A → ReadsAt p d B
-reads_by (ReadsFile name) d A B f h = f h
-reads_by ReadsInput d A B f h = h
-reads_by (WritesFile name) d A B f h = absurd h
-reads_by WritesOutput d A B f h = absurd h
-reads_by (Marks name) d A B f h = absurd h
-
-writes_by : (p : Place) (d : ℕ) (A B : Type 0) → (A → B) → WritesAt p d A → WritesAt p d B
-writes_by (ReadsFile name) d A B f h = absurd h
-writes_by ReadsInput d A B f h = absurd h
-writes_by (WritesFile name) d A B f h = f h
-writes_by WritesOutput d A B f h = h
-writes_by (Marks name) d A B f h = absurd h
 
 -- the bracket has no ticket of another site
 no_other : (k : Option Ticket) (s n d : ℕ) → IsOpenAt File k s → (n ≡ s → ⊥) → ticket_of k n d ≡ false

@@ -1,9 +1,8 @@
 -- What a part asks of its site, and what the site answers, passes through the whole.
 use Rattle.std.proofs.Common.{◌≡◌, ℕ, true, [], ◌∷◌, map, Some, ◌∙◌, subst}
 use Rattle.cd_meaning.specs.Known.{before, no_more}
-use Rattle.cd_meaning.specs.Places.{Place, Reads as ReadsFile, ReadsInput, Writes as WritesFile, WritesOutput, Marks}
+use Rattle.cd_meaning.specs.Places.{Place}
 use Rattle.cd_meaning.specs.Stream.{Open, Put, Close}
-use Rattle.cd_scope.specs.Uses.{ReadsAt, WritesAt}
 use Rattle.cd_step.specs.declared.control.Side.TheVariants.{Upper, Lower}
 use Rattle.cd_step.specs.Parts.{At, Part, Kept, IsSound, IsOutAt, site}
 use Rattle.cd_step.specs.Flows.{Same}
@@ -19,6 +18,7 @@ use Rattle.cd_node.specs.declared.protocol.NodeInput.TheVariants.{Start, Chunk, 
 use Rattle.cd_node.specs.declared.protocol.NodeMove.{NodeMove}
 use Rattle.cd_node.specs.declared.protocol.NodeMove.TheVariants.{Emit, Need, Acquire, Read, Write, Release, Done, Fault}
 use Rattle.cd_node.specs.declared.turn.NodeTurn.TheVariants.{Up, Down}
+use Rattle.cd_node.proofs.Tickets.{reads_by, writes_by}
 use Rattle.cd_node.proofs.Controls.{pair_sites, pair_tickets, pair_has_up, pair_has_down, pair_apart_up, pair_apart_down, pair_pass_up, pair_pass_down, pair_fits_up, pair_fits_down, pair_stuck_up, pair_stuck_down, pair_told_up, pair_told_down, pair_got_up, pair_got_down}
 
 -- ---- an answer to the part that is out
@@ -65,20 +65,6 @@ own_of_up c a b s h = pair_sites c a b s ∙ own_up (a.sites s) (b.sites s) h
 
 own_of_down : (c : PairControl) (a b : Part) (s : ℕ) → b.sites s ≡ true → (whole_pair c a b).sites s ≡ true
 own_of_down c a b s h = pair_sites c a b s ∙ own_down (a.sites s) (b.sites s) h
-
-reads_by : (x : Place) (d : ℕ) (P Q : Type 0) → (P → Q) → ReadsAt x d P → ReadsAt x d Q
-reads_by (ReadsFile name) d P Q f h = f h
-reads_by ReadsInput d P Q f h = h
-reads_by (WritesFile name) d P Q f h = h
-reads_by WritesOutput d P Q f h = h
-reads_by (Marks name) d P Q f h = h
-
-writes_by : (x : Place) (d : ℕ) (P Q : Type 0) → (P → Q) → WritesAt x d P → WritesAt x d Q
-writes_by (ReadsFile name) d P Q f h = h
-writes_by ReadsInput d P Q f h = h
-writes_by (WritesFile name) d P Q f h = f h
-writes_by WritesOutput d P Q f h = h
-writes_by (Marks name) d P Q f h = h
 
 -- it is out then
 out_of : (place : ℕ → Place) (m : NodeMove) (p q : Part) → AsksSite m → GoesNode place m p q → IsOutAt q.at q.sites

@@ -1,6 +1,8 @@
 -- Tickets of a part.
 use Rattle.std.proofs.Common.{◌≡◌, ℕ, ◌==◌, ◌&&◌, ◌||◌, Bool, true, false, Option, Some, None, refl, subst, sym, ◌∙◌}
 use Rattle.std.proofs.lemmas.Bool.{eqb-true, eq-eqb}
+use Rattle.cd_meaning.specs.Places.{Place, Reads as ReadsFile, ReadsInput, Writes as WritesFile, WritesOutput, Marks}
+use Rattle.cd_scope.specs.Uses.{ReadsAt, WritesAt}
 use Rattle.cd_scope.specs.declared.table.Ticket.{Ticket}
 use Rattle.cd_step.specs.Sites.{is_ticket, with_ticket}
 use Rattle.cd_node.specs.Ports.{HasNone, IsDescriptorAt, IsOpenAt, ticket_of}
@@ -57,3 +59,19 @@ ticket_descriptor t s d h = eqb-true d t.descriptor.0 (second (s == t.site.0) (d
   second : (x y : Bool) → (x && y) ≡ true → y ≡ true
   second true y h = h
   second false y h = cc
+
+-- ---- a descriptor that is open for one is open for the other
+
+pub reads_by : (x : Place) (d : ℕ) (P Q : Type 0) → (P → Q) → ReadsAt x d P → ReadsAt x d Q
+reads_by (ReadsFile name) d P Q f h = f h
+reads_by ReadsInput d P Q f h = h
+reads_by (WritesFile name) d P Q f h = h
+reads_by WritesOutput d P Q f h = h
+reads_by (Marks name) d P Q f h = h
+
+pub writes_by : (x : Place) (d : ℕ) (P Q : Type 0) → (P → Q) → WritesAt x d P → WritesAt x d Q
+writes_by (ReadsFile name) d P Q f h = h
+writes_by ReadsInput d P Q f h = h
+writes_by (WritesFile name) d P Q f h = f h
+writes_by WritesOutput d P Q f h = h
+writes_by (Marks name) d P Q f h = h
