@@ -1,2 +1,1 @@
-pub mod LeafSteps
 pub mod OpenMarks

@@ -1,9 +1,8 @@
 // Each move of plain fusion and of sequences over two element words.
-use crate::given::Given;
-use crate::pairs::Pair;
 use cd_elem::ElemWord;
 use cd_fuse::{Follow, Fuse};
 use std::test::Fail;
+use test_callers::{Given, Pair};
 
 /// Two words, what comes to them, whether the end does, and each of their moves.
 #[derive(Clone, Copy)]

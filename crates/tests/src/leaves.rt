@@ -1,10 +1,9 @@
 // Words with sites, each of their moves written down.
-use crate::given::Given;
-use crate::leaf_runs::{LeafRun, LeafWord, run_leaf};
 use cd_elem::Site;
 use cd_scope::JournalLine;
 use cd_world::Fail;
 use std::test;
+use test_callers::{Given, LeafRun, LeafWord, run_leaf};
 
 /// A word, what is read or what comes to it, whether that ends, and each of its moves.
 #[derive(Clone, Copy)]

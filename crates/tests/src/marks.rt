@@ -6,12 +6,12 @@ ghost use Rattle.cd_world.specs.Memory.{live_in};
 ghost use Rattle.cd_scope.specs.State.{held_in};
 ghost use Rattle.cd_scope.specs.Table.{IsHeldBy, IsOpen};
 
-use crate::sites::{file_of, lacks_memory, site_of};
 use cd_elem::{Items, NoMemory, Site};
 use cd_scope::{Finished, Scope, Ticket};
 use cd_typed::SiteUse;
 use cd_world::{Fail, MemoryFiles, MemoryWorld};
 use std::alloc::Global;
+use test_callers::{file_of, lacks_memory, site_of};
 
 /// How a resource is closed before its scope ends, if at all.
 #[derive(Clone, Copy)]

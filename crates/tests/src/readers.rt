@@ -1,10 +1,10 @@
 // Many sites that read one file, in a scope over a world in memory.
-use crate::sites::{file_of, lacks_memory, site_of};
 use cd_elem::{Items, NoMemory, Site};
 use cd_scope::{Finished, Scope};
 use cd_typed::SiteUse;
 use cd_world::{MemoryFiles, MemoryWorld};
 use std::alloc::Global;
+use test_callers::{file_of, lacks_memory, site_of};
 
 /// The empty file `r`.
 fn world_of(alloc: Global) -> Result<MemoryWorld, NoMemory> {

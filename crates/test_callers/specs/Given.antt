@@ -1,8 +1,8 @@
 -- Bytes that come by and by.
 use Rattle.cd_elem.specs.declared.kind.Kind.TheVariants.{Bytes}
 use Rattle.cd_step.specs.Parts.{IsChunk}
-use Rattle.tests.specs.declared.given.Coming.{Coming}
-use Rattle.tests.specs.declared.given.Coming.TheVariants as coming
+use Rattle.test_callers.specs.declared.given.Coming.{Coming}
+use Rattle.test_callers.specs.declared.given.Coming.TheVariants as coming
 
 abbrev pub is_coming : Coming → Type 0
 is_coming (coming.Bytes c) = IsChunk Bytes c

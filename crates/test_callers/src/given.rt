@@ -1,6 +1,6 @@
 // Bytes that come by and by.
 ghost use Rattle.std.specs.Prelude.{IfOk};
-ghost use Rattle.tests.specs.Given.{is_coming};
+ghost use Rattle.test_callers.specs.Given.{is_coming};
 
 use crate::lines::{StepError, chunk_of};
 use cd_elem::Chunk;

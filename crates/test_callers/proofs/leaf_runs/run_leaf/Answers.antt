@@ -1,7 +1,7 @@
 use Rattle.cd_typed.specs.Sites.{place_of}
 use Rattle.cd_world.specs.Memory.{live_in}
-use Rattle.tests.proofs.OpenMarks.{none_open}
-use Rattle.tests.proofs.leaf_runs.run_leaf.Goals as goal
+use Rattle.test_callers.proofs.OpenMarks.{none_open}
+use Rattle.test_callers.proofs.leaf_runs.run_leaf.Goals as goal
 
 pub step_all-stepped-requires-clause-open : goal.step_all-stepped-requires-clause-open
 step_all-stepped-requires-clause-open c = (live_in c.in_ok-world.world, none_open _ c.in_ok-scope.scope c.in_ok-world.world c.in_ok-scope.ensures.held)

@@ -6,9 +6,9 @@ use Rattle.cd_node.specs.Nodes.{AreHeld, fed_node}
 use Rattle.cd_node.specs.declared.protocol.NodeInput.{NodeInput}
 use Rattle.cd_node.specs.declared.protocol.NodeInput.TheVariants.{Start, Chunk, End, Next, Acquired, Gave, GaveEnd, Wrote, Closed}
 use Rattle.cd_node.proofs.Tickets.{ticket_own}
-use Rattle.tests.specs.declared.leaf_runs.Leaf.{Leaf}
-use Rattle.tests.specs.declared.leaf_runs.Leaf.TheVariants as leaf
-use Rattle.tests.specs.Leaves.{IsInputHeld, IsOnBytes, seen_leaf}
+use Rattle.test_callers.specs.declared.leaf_runs.Leaf.{Leaf}
+use Rattle.test_callers.specs.declared.leaf_runs.Leaf.TheVariants as leaf
+use Rattle.test_callers.specs.Leaves.{IsInputHeld, IsOnBytes, seen_leaf}
 
 pub leaf_takes : (l : Leaf) → IsOnBytes (seen_leaf l).takes
 leaf_takes (leaf.Source l) = tt

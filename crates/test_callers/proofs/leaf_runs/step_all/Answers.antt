@@ -6,10 +6,10 @@ use Rattle.cd_scope.specs.State.{held_in}
 use Rattle.cd_node.specs.Nodes.{AreHeld, NodeStepped, fed_node}
 use Rattle.cd_node.specs.declared.protocol.NodeInput.{NodeInput}
 use Rattle.cd_node.specs.declared.protocol.NodeMove.{NodeMove}
-use Rattle.tests.specs.declared.lines.StepError.{StepError}
-use Rattle.tests.specs.Leaves.{AnswersMove, seen_leaf}
-use Rattle.tests.proofs.LeafSteps.{input_held, leaf_takes, part_held}
-use Rattle.tests.proofs.leaf_runs.step_all.Goals as goal
+use Rattle.test_callers.specs.declared.lines.StepError.{StepError}
+use Rattle.test_callers.specs.Leaves.{AnswersMove, seen_leaf}
+use Rattle.test_callers.proofs.LeafSteps.{input_held, leaf_takes, part_held}
+use Rattle.test_callers.proofs.leaf_runs.step_all.Goals as goal
 
 pub retire-rest-requires : goal.retire-rest-requires
 retire-rest-requires c = subst (λ (x : Option NodeInput). AnswersMove (held_in c.respond.new.scope) (seen_leaf c.step.new.self) (Ok x)) c.in-Ok-None.field-0-is (subst (λ (r : Result (Option NodeInput) StepError). AnswersMove (held_in c.respond.new.scope) (seen_leaf c.step.new.self) r) c.in-Ok-None.is (c.respond.ensures.answers (fed_node c.loop.input (seen_leaf c.loop.leaf)) (seen_leaf c.step.new.self) (subst (λ (r : Result NodeMove NoMemory). IfOk r (λ m. NodeStepped (λ s. place_of c.args.info.now) (seen_leaf c.loop.leaf) c.loop.input m (seen_leaf c.step.new.self))) c.unwrap-made.ensures (c.step.ensures.law (λ s. place_of c.args.info.now) c.loop.invariant.stands)) c.step.ensures.kept (leaf_takes c.step.new.self) c.loop.invariant.held))

@@ -5,7 +5,7 @@ ghost use Rattle.cd_elem.specs.declared.kind.Kind.TheVariants as kind;
 ghost use Rattle.cd_elem.specs.declared.kind.Sort.TheVariants as sort;
 ghost use Rattle.cd_elemwise.specs.Carried.{HasType};
 ghost use Rattle.cd_step.specs.Parts.{AnswersAt, Goes, Part, part_at};
-ghost use Rattle.tests.specs.Placed.{are_placed, is_placed};
+ghost use Rattle.test_callers.specs.Placed.{are_placed, is_placed};
 
 use crate::given::{Coming, Given};
 use crate::lines::{StepError, push_back, push_input, push_move, push_value};

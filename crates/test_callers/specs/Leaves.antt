@@ -16,11 +16,11 @@ use Rattle.cd_node.specs.declared.protocol.NodeInput.{NodeInput}
 use Rattle.cd_node.specs.declared.protocol.NodeInput.TheVariants as given
 use Rattle.cd_node.specs.declared.protocol.NodeMove.{NodeMove}
 use Rattle.cd_node.specs.declared.protocol.NodeMove.TheVariants.{Emit, Need, Acquire, Read, Write, Release, Done, Fault}
-use Rattle.tests.specs.declared.lines.StepError.{StepError}
-use Rattle.tests.specs.declared.leaf_runs.Leaf.{Leaf}
-use Rattle.tests.specs.declared.leaf_runs.Leaf.TheVariants as leaf
-use Rattle.tests.specs.declared.leaf_runs.LeafWord.{LeafWord}
-use Rattle.tests.specs.declared.leaf_runs.LeafWord.TheVariants.{SourceFile, Stdin, SinkFile, Stdout}
+use Rattle.test_callers.specs.declared.lines.StepError.{StepError}
+use Rattle.test_callers.specs.declared.leaf_runs.Leaf.{Leaf}
+use Rattle.test_callers.specs.declared.leaf_runs.Leaf.TheVariants as leaf
+use Rattle.test_callers.specs.declared.leaf_runs.LeafWord.{LeafWord}
+use Rattle.test_callers.specs.declared.leaf_runs.LeafWord.TheVariants.{SourceFile, Stdin, SinkFile, Stdout}
 
 abbrev pub word_use : LeafWord → SiteUse
 word_use SourceFile = uses.Reading

@@ -5,8 +5,8 @@ use Rattle.cd_world.specs.Memory.{live_in}
 use Rattle.cd_scope.specs.State.{held_in, room_in}
 use Rattle.cd_scope.specs.Table.{IsOpen}
 use Rattle.cd_node.specs.Nodes.{AnswersNode, AreHeld, fed_node}
-use Rattle.tests.specs.Leaves.{leaf_fits, leaf_stands, seen_leaf}
-use Rattle.tests.proofs.leaf_runs.step_all.Given as goal
+use Rattle.test_callers.specs.Leaves.{leaf_fits, leaf_stands, seen_leaf}
+use Rattle.test_callers.proofs.leaf_runs.step_all.Given as goal
 
 abbrev pub invariant-loop : goal.invariant-loop
 invariant-loop l = record {

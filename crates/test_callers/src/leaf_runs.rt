@@ -10,7 +10,7 @@ ghost use Rattle.cd_scope.specs.Table.{IsOpen};
 ghost use Rattle.cd_scope.specs.Uses.{HasFile};
 ghost use Rattle.cd_node.specs.Nodes.{AnswersNode, AreHeld, GoesNode, HasNoTicket, NodeStepped, fed_node};
 ghost use Rattle.cd_node.specs.declared.protocol.NodeInput.TheVariants as given;
-ghost use Rattle.tests.specs.Leaves.{AnswersMove, IsInputHeld, IsOnBytes, MayAnswer, leaf_fits, leaf_stands, seen_leaf, word_use};
+ghost use Rattle.test_callers.specs.Leaves.{AnswersMove, IsInputHeld, IsOnBytes, MayAnswer, leaf_fits, leaf_stands, seen_leaf, word_use};
 
 use crate::given::{Coming, Given};
 use crate::lines::{StepError, push_back, push_chunk, push_value};

@@ -1,5 +1,0 @@
-use Rattle.tests.specs.Placed.{are_placed}
-use Rattle.tests.proofs.pairs.Pair.answer.Given as goal
-
-abbrev pub invariant-loop : goal.invariant-loop
-invariant-loop g l = are_placed l.self
