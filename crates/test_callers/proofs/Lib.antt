@@ -1,1 +1,3 @@
+pub mod LeafRooms
 pub mod LeafSteps
+pub mod OpenMarks

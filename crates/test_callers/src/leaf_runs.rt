@@ -1,5 +1,5 @@
 // A word with a site in a scope over a world in memory, with a line for each input and each move.
-ghost use Rattle.std.specs.Prelude.{◌≡◌, ◌<◌, ◌≤◌, ◌+◌, ℕ, List, IfOk, IsOk};
+ghost use Rattle.std.specs.Prelude.{◌≡◌, ◌<◌, ◌≤◌, ◌+◌, ◌==◌, ℕ, List, IfOk, IsOk};
 ghost use Rattle.cd_meaning.specs.Places.{Place};
 ghost use Rattle.cd_step.specs.Parts.{Kept, Part};
 ghost use Rattle.cd_typed.specs.Sites.{place_of};
@@ -17,6 +17,7 @@ use crate::lines::{StepError, push_back, push_chunk, push_value};
 use crate::sites::{file_of, site_of};
 use cd_elem::{Chunk, Items, NoMemory, Site};
 use cd_node::{NodeInput, NodeMove, Sink, Source, held_tickets};
+use cd_run::StatementNode;
 use cd_scope::{AcquireError, Finished, Scope};
 use cd_typed::{SiteInfo, SiteUse};
 use cd_world::{Descriptor, Fail, MemoryFiles, MemoryWorld};
@@ -47,11 +48,12 @@ pub struct LeafRun {
 }
 
 impl Leaf {
-    fn new(word: LeafWord, info: &SiteInfo) -> Leaf
+    pub fn new(word: LeafWord, info: &SiteInfo) -> Leaf
         requires { info.now.use_of ≡ word_use word }
         ensures fit { leaf_fits result }
         ensures fresh { AnswersNode (seen_leaf result) given.Start }
-        ensures stands { leaf_stands result (λ s. place_of info.now) }
+        ensures stands { (place : ℕ → Place) → place 1 ≡ place_of info.now → leaf_stands result place }
+        ensures sites { (s : ℕ) → (seen_leaf result).sites s ≡ (s == 1) }
         ensures no_ticket { HasNoTicket (seen_leaf result) }
     {
         match word {
@@ -62,7 +64,7 @@ impl Leaf {
         }
     }
 
-    fn step(&mut self, alloc: Global, input: NodeInput) -> Result<NodeMove, NoMemory>
+    fn advance(&mut self, alloc: Global, input: NodeInput) -> Result<NodeMove, NoMemory>
         requires fit { leaf_fits self.old }
         requires answers { AnswersNode (seen_leaf self.old) input }
         ensures taken { IsOk result }
@@ -85,6 +87,25 @@ impl Leaf {
             Leaf::Source(source) => source.retire(scope),
             Leaf::Sink(sink) => sink.retire(scope),
         }
+    }
+}
+
+impl StatementNode for Leaf {
+    ghost use Rattle.test_callers.specs.Leaves.{leaf_fits, leaf_stands, seen_leaf};
+
+    ghost seen = { seen_leaf };
+
+    ghost well = { leaf_fits };
+
+    ghost stands = { leaf_stands };
+
+    fn step(&mut self, alloc: Global, input: NodeInput) -> Result<NodeMove, NoMemory> {
+        self.advance(alloc, input)
+    }
+
+    fn abandon(self, scope: &mut Scope) {
+        let rest = self.retire(scope);
+        drop(rest);
     }
 }
 
@@ -258,7 +279,7 @@ fn step_all(
     let mut input = NodeInput::Start;
     for _ in 0..MOST {
         told = told.and(push_given(text, &input));
-        let made = leaf.step(alloc, input).unwrap();
+        let made = leaf.advance(alloc, input).unwrap();
         told = told.and(push_made(text, &made));
         match respond(alloc, made, scope, world, info, &mut coming) {
             Ok(Some(next)) => input = next,
@@ -288,7 +309,7 @@ fn world_of(alloc: Global, failing: Option<Fail>) -> Result<MemoryWorld, NoMemor
     MemoryWorld::new(alloc, files)
 }
 
-fn use_of(word: LeafWord) -> SiteUse
+pub fn use_of(word: LeafWord) -> SiteUse
     ensures { result ≡ word_use word }
 {
     match word {

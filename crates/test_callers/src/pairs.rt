@@ -130,7 +130,7 @@ fn push_turn(text: &mut String, name: &str, input: &Input) -> Result<(), StepErr
 
 impl Pair {
     /// Two words on bytes that have not begun.
-    pub fn new(alloc: Global, words: (ElemWord, ElemWord)) -> Result<Pair, StepError>
+    fn new(alloc: Global, words: (ElemWord, ElemWord)) -> Result<Pair, StepError>
         ensures { IfOk result are_placed }
     {
         let upper = Placed::new(alloc, words.0)?;
@@ -183,7 +183,7 @@ impl Pair {
     }
 
     /// The moves of a whole that is given this. Where nothing comes, no step follows.
-    pub fn play<C: Control>(
+    fn play<C: Control>(
         &mut self,
         alloc: Global,
         control: &mut C,
@@ -222,6 +222,19 @@ impl Pair {
         drop(input);
         Err(StepError::Unending)
     }
+}
+
+/// The moves of a whole of two words under this controller, which has not begun and is given this.
+pub fn moves_of<C: Control>(
+    alloc: Global,
+    control: &mut C,
+    words: (ElemWord, ElemWord),
+    given: Given<'_>,
+) -> Result<String, StepError> {
+    let mut pair = Pair::new(alloc, words)?;
+    let moves = pair.play(alloc, control, given);
+    drop(pair);
+    moves
 }
 
 fn push_answer(text: &mut String, made: &Move) -> Result<(), StepError> {

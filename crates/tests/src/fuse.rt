@@ -2,7 +2,7 @@
 use cd_elem::ElemWord;
 use cd_fuse::{Follow, Fuse};
 use std::test::Fail;
-use test_callers::{Given, Pair};
+use test_callers::{Given, moves_of};
 
 /// Two words, what comes to them, whether the end does, and each of their moves.
 #[derive(Clone, Copy)]
@@ -16,7 +16,6 @@ struct Row<'a> {
 
 #[test]
 fn fusions(rt: HostRuntime) -> Result<(), Fail> {
-    let alloc = rt.alloc();
     let rows = [
         // the upstream begins when it is asked; what the downstream has not read is dropped, and what the suspended
         // upstream has not read is given back
@@ -100,20 +99,15 @@ back nothing
         },
     ];
     for row in rows {
-        let mut pair = Pair::new(alloc, row.words)?;
-        let text = pair.play(
-            alloc,
-            &mut Fuse::new(),
-            Given::new(row.given, row.size, row.ends),
-        )?;
-        assert_eq!(rt; text.as_str(), row.moves);
+        let given = Given::new(row.given, row.size, row.ends);
+        let moves = moves_of(rt.alloc(), &mut Fuse::new(), row.words, given)?;
+        assert_eq!(rt; moves.as_str(), row.moves);
     }
     Ok(())
 }
 
 #[test]
 fn sequences(rt: HostRuntime) -> Result<(), Fail> {
-    let alloc = rt.alloc();
     let rows = [
         // the second part begins when the first has ended, and reads what that left
         Row {
@@ -207,13 +201,9 @@ back nothing
         },
     ];
     for row in rows {
-        let mut pair = Pair::new(alloc, row.words)?;
-        let text = pair.play(
-            alloc,
-            &mut Follow::new(),
-            Given::new(row.given, row.size, row.ends),
-        )?;
-        assert_eq!(rt; text.as_str(), row.moves);
+        let given = Given::new(row.given, row.size, row.ends);
+        let moves = moves_of(rt.alloc(), &mut Follow::new(), row.words, given)?;
+        assert_eq!(rt; moves.as_str(), row.moves);
     }
     Ok(())
 }

@@ -4,6 +4,8 @@
 #[cfg(test)]
 mod back;
 #[cfg(test)]
+mod driven;
+#[cfg(test)]
 mod fuse;
 #[cfg(test)]
 mod leaves;

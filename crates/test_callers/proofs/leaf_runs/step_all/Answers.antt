@@ -12,17 +12,17 @@ use Rattle.test_callers.proofs.LeafSteps.{input_held, leaf_takes, part_held}
 use Rattle.test_callers.proofs.leaf_runs.step_all.Goals as goal
 
 pub retire-rest-requires : goal.retire-rest-requires
-retire-rest-requires c = subst (λ (x : Option NodeInput). AnswersMove (held_in c.respond.new.scope) (seen_leaf c.step.new.self) (Ok x)) c.in-Ok-None.field-0-is (subst (λ (r : Result (Option NodeInput) StepError). AnswersMove (held_in c.respond.new.scope) (seen_leaf c.step.new.self) r) c.in-Ok-None.is (c.respond.ensures.answers (fed_node c.loop.input (seen_leaf c.loop.leaf)) (seen_leaf c.step.new.self) (subst (λ (r : Result NodeMove NoMemory). IfOk r (λ m. NodeStepped (λ s. place_of c.args.info.now) (seen_leaf c.loop.leaf) c.loop.input m (seen_leaf c.step.new.self))) c.unwrap-made.ensures (c.step.ensures.law (λ s. place_of c.args.info.now) c.loop.invariant.stands)) c.step.ensures.kept (leaf_takes c.step.new.self) c.loop.invariant.held))
+retire-rest-requires c = subst (λ (x : Option NodeInput). AnswersMove (held_in c.respond.new.scope) (seen_leaf c.advance.new.self) (Ok x)) c.in-Ok-None.field-0-is (subst (λ (r : Result (Option NodeInput) StepError). AnswersMove (held_in c.respond.new.scope) (seen_leaf c.advance.new.self) r) c.in-Ok-None.is (c.respond.ensures.answers (fed_node c.loop.input (seen_leaf c.loop.leaf)) (seen_leaf c.advance.new.self) (subst (λ (r : Result NodeMove NoMemory). IfOk r (λ m. NodeStepped (λ s. place_of c.args.info.now) (seen_leaf c.loop.leaf) c.loop.input m (seen_leaf c.advance.new.self))) c.unwrap-made.ensures (c.advance.ensures.law (λ s. place_of c.args.info.now) c.loop.invariant.stands)) c.advance.ensures.kept (leaf_takes c.advance.new.self) c.loop.invariant.held))
 
 pub retire-rest-requires-in-Err : goal.retire-rest-requires-in-Err
-retire-rest-requires-in-Err c = (subst (λ (r : Result (Option NodeInput) StepError). AnswersMove (held_in c.respond.new.scope) (seen_leaf c.step.new.self) r) c.in-Err.is (c.respond.ensures.answers (fed_node c.loop.input (seen_leaf c.loop.leaf)) (seen_leaf c.step.new.self) (subst (λ (r : Result NodeMove NoMemory). IfOk r (λ m. NodeStepped (λ s. place_of c.args.info.now) (seen_leaf c.loop.leaf) c.loop.input m (seen_leaf c.step.new.self))) c.unwrap-made.ensures (c.step.ensures.law (λ s. place_of c.args.info.now) c.loop.invariant.stands)) c.step.ensures.kept (leaf_takes c.step.new.self) c.loop.invariant.held))
+retire-rest-requires-in-Err c = (subst (λ (r : Result (Option NodeInput) StepError). AnswersMove (held_in c.respond.new.scope) (seen_leaf c.advance.new.self) r) c.in-Err.is (c.respond.ensures.answers (fed_node c.loop.input (seen_leaf c.loop.leaf)) (seen_leaf c.advance.new.self) (subst (λ (r : Result NodeMove NoMemory). IfOk r (λ m. NodeStepped (λ s. place_of c.args.info.now) (seen_leaf c.loop.leaf) c.loop.input m (seen_leaf c.advance.new.self))) c.unwrap-made.ensures (c.advance.ensures.law (λ s. place_of c.args.info.now) c.loop.invariant.stands)) c.advance.ensures.kept (leaf_takes c.advance.new.self) c.loop.invariant.held))
 
 pub loop-preserved : goal.loop-preserved
 loop-preserved c =
-    let next = subst (λ (x : Option NodeInput). AnswersMove (held_in c.respond.new.scope) (seen_leaf c.step.new.self) (Ok x)) c.in-Ok-Some.field-0-is (subst (λ (r : Result (Option NodeInput) StepError). AnswersMove (held_in c.respond.new.scope) (seen_leaf c.step.new.self) r) c.in-Ok-Some.is (c.respond.ensures.answers (fed_node c.loop.input (seen_leaf c.loop.leaf)) (seen_leaf c.step.new.self) (subst (λ (r : Result NodeMove NoMemory). IfOk r (λ m. NodeStepped (λ s. place_of c.args.info.now) (seen_leaf c.loop.leaf) c.loop.input m (seen_leaf c.step.new.self))) c.unwrap-made.ensures (c.step.ensures.law (λ s. place_of c.args.info.now) c.loop.invariant.stands)) c.step.ensures.kept (leaf_takes c.step.new.self) c.loop.invariant.held)) in record {
-      fit = c.step.ensures.fit;
+    let next = subst (λ (x : Option NodeInput). AnswersMove (held_in c.respond.new.scope) (seen_leaf c.advance.new.self) (Ok x)) c.in-Ok-Some.field-0-is (subst (λ (r : Result (Option NodeInput) StepError). AnswersMove (held_in c.respond.new.scope) (seen_leaf c.advance.new.self) r) c.in-Ok-Some.is (c.respond.ensures.answers (fed_node c.loop.input (seen_leaf c.loop.leaf)) (seen_leaf c.advance.new.self) (subst (λ (r : Result NodeMove NoMemory). IfOk r (λ m. NodeStepped (λ s. place_of c.args.info.now) (seen_leaf c.loop.leaf) c.loop.input m (seen_leaf c.advance.new.self))) c.unwrap-made.ensures (c.advance.ensures.law (λ s. place_of c.args.info.now) c.loop.invariant.stands)) c.advance.ensures.kept (leaf_takes c.advance.new.self) c.loop.invariant.held)) in record {
+      fit = c.advance.ensures.fit;
       answers = next.0;
-      stands = c.step.ensures.places _ c.loop.invariant.stands;
+      stands = c.advance.ensures.places _ c.loop.invariant.stands;
       held = next.1;
       room = omega (arith, c.respond.ensures.room, c.loop.invariant.room);
       «open» = λ base o. c.respond.ensures.open base (c.loop.invariant.open base o);

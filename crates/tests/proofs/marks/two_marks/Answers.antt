@@ -3,7 +3,7 @@ use Rattle.cd_meaning.specs.Places.{Place, place_in}
 use Rattle.cd_typed.specs.Sites.{place_of}
 use Rattle.cd_world.specs.Live.{Open}
 use Rattle.cd_world.specs.Memory.{live_in}
-use Rattle.tests.proofs.OpenMarks.{HasOpen, none_open, same_open}
+use Rattle.test_callers.proofs.OpenMarks.{HasOpen, none_open, same_open}
 use Rattle.tests.proofs.marks.two_marks.Goals as goal
 use Rattle.tests.proofs.marks.two_marks.Goals.{in-Ok, in_default, in-Ok-one, in_default-one}
 

@@ -2,7 +2,7 @@ use Rattle.std.proofs.Common.{◌+◌, ◌≤◌}
 use Rattle.cd_typed.specs.Sites.{place_of}
 use Rattle.cd_world.specs.Memory.{live_in}
 use Rattle.cd_scope.specs.State.{room_in}
-use Rattle.tests.proofs.OpenMarks.{HasOpen}
+use Rattle.test_callers.proofs.OpenMarks.{HasOpen}
 use Rattle.tests.proofs.readers.many_readers.Given as goal
 
 abbrev pub invariant-loop-number : goal.invariant-loop-number

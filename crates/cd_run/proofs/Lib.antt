@@ -1,0 +1,16 @@
+pub mod CallSteps
+pub mod Chain
+pub mod RunEnd
+pub mod FileReads
+pub mod FileSteps
+pub mod Goes
+pub mod Infos
+pub mod MoveSteps
+pub mod Opened
+pub mod ReadSteps
+pub mod Rooms
+pub mod RunSteps
+pub mod Running
+pub mod Slices
+pub mod Steps
+pub mod WriteSteps

@@ -1,0 +1,20 @@
+-- A run with one call more.
+use Rattle.std.proofs.Common.{◌≡◌, ℕ, List, [], ◌∷◌, ◌++◌, ap, sym, ◌∙◌}
+use Rattle.cd_meaning.specs.Run.{Run}
+use Rattle.cd_meaning.specs.RunShapes.{MayGoOn, Mark, Seen}
+use Rattle.cd_scope.specs.Calls.{Call, did, does, effects_of, mark_by, mark_of, on}
+use Rattle.cd_scope.proofs.Further.{did_snoc, over_snoc}
+use Rattle.cd_run.specs.Going.{Stands}
+
+-- a call tells something, and does what is due
+pub stands_call : (m : Seen → Run) (todo : Seen → Seen → Run) (c : Call) (cs : List Call) → Stands m (λ all z. does (effects_of c) (todo all z)) cs → Stands m (λ all z. todo all (on c z)) (cs ++ c ∷ [])
+stands_call m todo c cs st z =
+    ap m (over_snoc cs c z)
+    ∙ st (on c z)
+    ∙ sym (did_snoc cs c _)
+    ∙ ap (λ w. did (cs ++ c ∷ []) (todo w (on c z))) (sym (over_snoc cs c z))
+
+-- a call that tells no mark leaves that of each site
+pub mark_left : (x : ℕ) (cs : List Call) (c : Call) → ((m : Mark) → mark_by x c m ≡ m) → mark_of x (cs ++ c ∷ []) ≡ mark_of x cs
+mark_left x [] c e = e MayGoOn
+mark_left x (b ∷ cs) c e = ap (mark_by x b) (mark_left x cs c e)

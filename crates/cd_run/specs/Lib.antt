@@ -1,0 +1,5 @@
+pub mod Ends
+pub mod Going
+pub mod Paused
+pub mod Ran
+pub mod Statements
