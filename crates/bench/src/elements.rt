@@ -8,7 +8,7 @@ use std::alloc::Global;
 use std::rt::Clock;
 
 /// More elements than are given.
-const MANY: u64 = 1 << 40;
+pub const MANY: u64 = 1 << 40;
 
 /// The greatest number that `collectE` takes.
 const MOST: u64 = 16_777_216;

@@ -12,16 +12,16 @@ use std::rt::Clock;
 use std::time::{Duration, Instant};
 
 /// How many times the chunk is read.
-const ROUNDS: u32 = 10_000;
+pub const ROUNDS: u32 = 10_000;
 
-/// The bytes a second. What took no time is taken to take a nanosecond.
-fn rate(bytes: u64, taken: Duration) -> u128
-    ensures { result ≡ bytes * 1_000_000_000 / max (as_nanos taken) 1 }
+/// How many a second. What took no time is taken to take a nanosecond.
+pub fn rate(count: u64, taken: Duration) -> u128
+    ensures { result ≡ count * 1_000_000_000 / max (as_nanos taken) 1 }
 {
-    u128::from(bytes) * 1_000_000_000 / taken.as_nanos().max(1)
+    u128::from(count) * 1_000_000_000 / taken.as_nanos().max(1)
 }
 
-fn print_row<R: Print>(
+pub fn print_row<R: Print>(
     rt: &R,
     name: &str,
     len: usize,
