@@ -12,7 +12,7 @@ help:
 	@echo 'make cases              writes the data of crates/cases again'
 	@echo 'make edits CRATES=..    tries the wrong changes of the code, and right twins, of these crates or of all'
 	@echo 'make gate-times         runs the gate from nothing and prints what it costs'
-	@echo 'make bench              measures how many bytes a second the words read, and how long scripts are judged'
+	@echo 'make bench              measures how many bytes a second words and trees read, and how long scripts are judged'
 	@echo 'make clean              removes what was built'
 
 # `rt run` proves the program, links it and runs it: here on a script that reads nothing and writes nothing.
@@ -44,6 +44,7 @@ edits:
 bench:
 	cd crates/bench && rt run
 	bench/elements.sh
+	bench/trees.sh
 	$(MAKE) --no-print-directory build
 	bench/scripts.sh
 
