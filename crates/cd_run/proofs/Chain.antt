@@ -3,12 +3,10 @@ use Rattle.std.proofs.Common.{◌≡◌, ℕ, Bool, true, false, List, [], ◌�
 use Rattle.cd_meaning.specs.Run.{Run, Component, Then, start, acts_at}
 use Rattle.cd_meaning.specs.Scripts.{value_puts}
 use Rattle.cd_meaning.specs.Stream.{Value, Ended, Put, Do}
-use Rattle.cd_typed.specs.declared.site.SiteInfo.{SiteInfo}
 use Rattle.cd_step.specs.Parts.{Part}
 use Rattle.cd_scope.specs.Calls.{does}
 use Rattle.cd_scope.specs.Uses.{WritesAt}
-use Rattle.cd_meaning.specs.Places.{Place}
-use Rattle.cd_run.specs.Going.{places_of}
+use Rattle.cd_meaning.specs.Places.{Place, WritesOutput}
 use Rattle.cd_run.specs.Paused.{Forgets}
 use Rattle.cd_run.specs.Statements.{IsLocal, goes, value_line}
 
@@ -36,5 +34,5 @@ puts_line (Value.Pair u v) r = puts_of_line (value_line (Value.Pair u v)) r
 puts_line (Value.ListV vs) r = puts_of_line (value_line (Value.ListV vs)) r
 
 -- results are printed to standard output
-pub results_at : (place : ℕ → Place) (sites : List SiteInfo) → place ≡ places_of sites → (A : Type 0) → WritesAt (place 0) 1 A
-results_at place sites placed A = subst (λ (f : ℕ → Place). WritesAt (f 0) 1 A) (sym placed) refl
+pub results_at : (p : Place) → p ≡ WritesOutput → (A : Type 0) → WritesAt p 1 A
+results_at p is A = subst (λ x. WritesAt x 1 A) (sym is) refl

@@ -6,7 +6,7 @@ use Rattle.std.proofs.lemmas.List.{append-nil, drop-drop}
 use Rattle.std.proofs.Math.Seq.{drop-append_seam}
 use Rattle.cd_meaning.specs.RunShapes.{Seen, AtEnd, MayGoOn, TooLong}
 use Rattle.cd_meaning.specs.Places.{Place, Reads, ReadsInput, Writes, WritesOutput, Marks, bytes_at, told_whole}
-use Rattle.cd_meaning.specs.Known.{pick, before, no_more}
+use Rattle.cd_meaning.specs.Known.{pick, before, no_more, unknown}
 use Rattle.cd_world.specs.declared.event.Descriptor.{Descriptor}
 use Rattle.cd_world.specs.Files.{Files, with_given, Gives, ReadsFile, left_at}
 use Rattle.cd_scope.specs.declared.table.Held.{Held}
@@ -57,6 +57,13 @@ before_by n b more le false true e h = absurd (let l = length-append b more in g
 
 before_whole : (n : ℕ) (b more : List ℕ) → length b ≤ n → before b (told_whole (n - length b) more) ≡ told_whole n (b ++ more)
 before_whole n b more le = before_by n b more le (nat_le (length more) (n - length b)) (nat_le (length (b ++ more)) n) refl refl
+
+-- at the limit nothing is known of what is still to come but that it is too long
+pub past_limit : (n : ℕ) (l : List ℕ) → n ≡ 0 → 0 < length l → told_whole n l ≡ unknown TooLong
+past_limit n [] none some = absurd (omega (arith, some))
+past_limit n (x ∷ l) none some =
+    let e : nat_le (length (x ∷ l)) n ≡ false = grind (arith, nat_tests, none) in
+    ap (λ (b : Bool). if b then record { bytes = x ∷ l; mark = AtEnd } else record { bytes = take n (x ∷ l); mark = TooLong }) e ∙ ap (λ (k : ℕ). record { bytes = take k (x ∷ l); mark = TooLong }) none
 
 nothing_whole : (n : ℕ) → no_more ≡ told_whole n []
 nothing_whole n = let e : nat_le 0 n ≡ true = grind (arith, nat_tests) in ap (λ (b : Bool). if b then record { bytes = []; mark = AtEnd } else record { bytes = take n []; mark = TooLong }) (sym e)
@@ -225,6 +232,18 @@ module _ (calls : List Call) (s : ℕ) (d : Descriptor) (b : List ℕ) where
     give_filed count into bytes lt few (Writes n) is at file input = absurd at
     give_filed count into bytes lt few WritesOutput is at file input = absurd at
     give_filed count into bytes lt few (Marks n) is at file input = absurd at
+
+    longer : (more : List ℕ) → old.more s ≡ b ++ more → 0 < length b → 0 < length (old.more s)
+    longer more split some = let e = ap length split in let l = length-append b more in omega (arith, e, l, some)
+
+    -- a read that gave bytes took them of what was still to come
+    pub some_left : (count : ℕ) (into : List ℕ) → b ≡ take count into → 0 < length b → (p : Place) → g.place s ≡ p → ReadsAt p d.0 (Contains t (held_at s d))
+        → ((name : List ℕ) → p ≡ Reads name → ReadsFile d.0 name into (Ok count) f f') → (d.0 ≡ 0 → files.ReadsInput into (Ok count) f f') → 0 < length (old.more s)
+    some_left count into bytes some (Reads name) is at file input = longer _ (split_file name is at count into bytes (file name refl).0) some
+    some_left count into bytes some ReadsInput is at file input = longer _ (split_input is count into bytes (input at).0) some
+    some_left count into bytes some (Writes n) is at file input = absurd at
+    some_left count into bytes some WritesOutput is at file input = absurd at
+    some_left count into bytes some (Marks n) is at file input = absurd at
 
 -- ---- a read that told the end
 

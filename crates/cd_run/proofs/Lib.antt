@@ -7,10 +7,15 @@ pub mod Goes
 pub mod Infos
 pub mod MoveSteps
 pub mod Opened
+pub mod Pipes
 pub mod ReadSteps
 pub mod Rooms
 pub mod RunSteps
+pub mod Runners
 pub mod Running
+pub mod ScriptRuns
+pub mod ScriptStart
+pub mod ScriptSteps
 pub mod Slices
 pub mod Steps
 pub mod WriteSteps

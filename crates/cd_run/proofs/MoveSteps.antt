@@ -68,7 +68,7 @@ module _ {t : List Held} {left : List ℕ} (g : Setting) (m : Seen → Run) (k :
       (λ all z. finishes (value_meaning v) (rest_items r) p z (k all) ((subst (λ x. GoesNode place x p q) is goes_by).finishes z)) G
 
   pub faults : (f : Node_fault) → mv ≡ HasFault f → Faulted g m (Decode f) t w0 w
-  faults f is = stopped g m t (within (left_run p) k) w0 w (Decode f) (Stop (DecodeStop f)) (λ cs clean. clean) (λ cs all. all)
+  faults f is = stopped g m t (within (left_run p) k) w0 w (Decode f) (Stop (DecodeStop f)) (λ cs clean. clean) (λ cs all. all) (λ r cs same. same)
       (λ all z. stuck_goes (Stop (DecodeStop f)) p z (k all) ((subst (λ x. GoesNode place x p q) is goes_by).stuck z)) G
 
 -- ---- the measure

@@ -18,18 +18,18 @@ use Rattle.cd_run.specs.declared.fault.RunFault.TheVariants.{NoMemory, ReadFault
 use Rattle.cd_scope.specs.Uses.{ReadsAt}
 use Rattle.cd_scope.specs.Calls.{Giving, Passing, Ending, Breaking, did, held_at, given_of, mark_of}
 use Rattle.cd_scope.specs.Due.{Setting, Due, Fits, GoesOn, Readable, Awaits}
-use Rattle.cd_run.specs.Going.{Outside, Going, Filed, MayBeRead}
+use Rattle.cd_run.specs.Going.{Outside, Going, Filed, MayBeRead, to_come}
 use Rattle.cd_run.specs.Ends.{Faulted}
 use Rattle.cd_scope.proofs.Lists.{each_snoc}
-use Rattle.cd_scope.proofs.Further.{open_snoc}
-use Rattle.cd_run.proofs.Running.{stands_call}
+use Rattle.cd_scope.proofs.Further.{did_snoc, open_snoc}
+use Rattle.cd_run.proofs.Running.{over_files, stands_call}
 use Rattle.cd_run.proofs.Steps.{logged, refused_by}
 use Rattle.cd_node.specs.Nodes.{StopsWith, halted, fed_node}
 use Rattle.cd_node.specs.declared.protocol.NodeInput.TheVariants.{Gave, GaveEnd}
 use Rattle.cd_run.specs.Statements.{goes, left_run, within}
 use Rattle.cd_run.specs.Paused.{Forgets}
 use Rattle.cd_run.proofs.Goes.{stuck_goes}
-use Rattle.cd_run.proofs.FileReads.{give_counted, end_counted}
+use Rattle.cd_run.proofs.FileReads.{give_counted, end_counted, past_limit}
 use Rattle.cd_step.specs.Parts as parts
 
 same_test : (s : ℕ) → (s == s) ≡ true
@@ -106,10 +106,11 @@ module _ {t : List Held} {left : List ℕ} (g : Setting) (m : Seen → Run) (k :
     standing = open_snoc G.calls (Breaking own.0 d) ∙ G.standing;
     failed = (d, record { front = G.calls; calls_are = refl; clean = G.clean });
     ends = λ z. stands_call m (within (left_run q) k) (Breaking own.0 d) G.calls G.stands z ∙ ap (did (G.calls ++ Breaking own.0 d ∷ [])) (halts Broken (Stop (ReadBad own.0)) refl z _);
+    whole = λ tells. tt;
   }
 
-  pub passed : (b : List ℕ) → length b ≡ 1 → get_or left own.0 0 ≡ 1 → w'.log ≡ w.log ++ HasGiven d b ∷ [] → Faulted g m (TooLong own) t w0 w'
-  passed b one last log = record {
+  pub passed : (b : List ℕ) → length b ≡ 1 → get_or left own.0 0 ≡ 1 → w'.log ≡ w.log ++ HasGiven d b ∷ [] → ((tells : IsTrue g.tells) → 0 < length ((G.filed tells).more own.0)) → Faulted g m (TooLong own) t w0 w'
+  passed b one last log some = record {
     calls = G.calls ++ Passing own.0 d b ∷ [];
     log = logged g.place w0.log w.log w'.log G.calls (Passing own.0 d b) G.log log;
     due = each_snoc (Due m) G.calls (Passing own.0 d b) G.due awaits;
@@ -117,7 +118,13 @@ module _ {t : List Held} {left : List ℕ} (g : Setting) (m : Seen → Run) (k :
     standing = open_snoc G.calls (Passing own.0 d b) ∙ G.standing;
     failed = (d, b, record { front = G.calls; calls_are = refl; clean = G.clean });
     ends = λ z. stands_call m (within (left_run q) k) (Passing own.0 d b) G.calls G.stands z ∙ ap (did (G.calls ++ Passing own.0 d b ∷ [])) (halts PastLimit (Stop (Long own.0)) refl z _);
+    whole = λ tells. over_files g m t left (within (left_run q) k) w0 w tells G
+        ∙ ap (did G.calls) (stuck_goes (Stop (Long own.0)) q (ahead tells) _ (stops (ahead tells) PastLimit (Stop (Long own.0)) (past_limit _ ((G.filed tells).more own.0) (let n = full (G.counted.counts own.0 lt) in omega (arith, n)) (some tells)) refl))
+        ∙ sym (did_snoc G.calls (Passing own.0 d b) _);
   } where
+    ahead : IsTrue g.tells → Seen
+    ahead tells = to_come g G.calls (G.filed tells).more
+
     full : MayBeRead g (mark_of own.0 G.calls) (length (given_of own.0 G.calls)) (get_or left own.0 0) → length (given_of own.0 G.calls) ≡ g.limit
     full (inl o) = absurd (omega (arith, o.1, last))
     full (inr o) = let c = o.1 in omega (arith, c, last)

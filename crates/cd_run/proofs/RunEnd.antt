@@ -1,31 +1,22 @@
 -- The end of a run.
-use Rattle.std.proofs.Common.{◌≡◌, inl, inr, ℕ, List, ◌++◌, map, reverse, Option, Some, None, Result, Ok, Err, refl, ap, sym, ◌∙◌, subst, append_assoc}
-use Rattle.std.specs.Prelude.{IsTrue}
+use Rattle.std.proofs.Common.{◌≡◌, inl, inr, ℕ, List, [], ◌∷◌, ◌++◌, map, reverse, Option, Some, None, Result, Ok, Err, refl, ap, sym, ◌∙◌, subst, append_assoc, arith}
 use Rattle.std.proofs.lemmas.List.{map-append}
 use Rattle.cd_elem.specs.declared.site.Site.{Site}
-use Rattle.cd_meaning.specs.Places.{bytes_at, told_whole}
 use Rattle.cd_meaning.specs.Run.{Run}
 use Rattle.cd_meaning.specs.RunShapes.{Seen}
+use Rattle.cd_world.specs.Causes.{Rose, risen}
 use Rattle.cd_scope.specs.declared.journal.JournalLine.{JournalLine}
 use Rattle.cd_scope.specs.declared.table.Held.{Held}
-use Rattle.cd_scope.specs.Calls.{Call, did, event, over}
+use Rattle.cd_scope.specs.Calls.{Call, Opening, Refusing, Giving, Passing, Ending, Breaking, Writing, Losing, Closing, Sticking, event}
 use Rattle.cd_scope.specs.Due.{Setting}
-use Rattle.cd_scope.specs.Table.{AreCloses, Closes, RoseIfSome}
+use Rattle.cd_scope.specs.Table.{AreCloses, Closes, RoseIfSome, count_after, first_stuck}
 use Rattle.cd_run.specs.declared.fault.RunFault.{RunFault}
 use Rattle.cd_run.specs.declared.fault.RunFault.TheVariants.{CloseFault}
 use Rattle.cd_run.specs.Ends.{Faulted, MovedOn}
-use Rattle.cd_run.specs.Going.{Going, Outside, to_come}
+use Rattle.cd_run.specs.Going.{Going, Outside}
 use Rattle.cd_run.specs.Ran.{IsJoined, Ran, RoseAtEnd, done}
 use Rattle.cd_run.specs.Statements.{behind}
-
--- over all that the files held, up to the limit, m is what it was over what was seen
-over_files : (g : Setting) (m : Seen → Run) (t : List Held) (left : List ℕ) (next : Seen → Run) (w0 w : Outside) → IsTrue g.tells → (G : Going g m t left (behind next) w0 w)
-    → m (λ s. told_whole g.limit (bytes_at w0.files.contents w0.files.input (g.place s))) ≡ did G.calls (next (λ s. told_whole g.limit (bytes_at w0.files.contents w0.files.input (g.place s))))
-over_files g m t left next w0 w tells G =
-    let old = G.filed tells in
-    let z = to_come g G.calls old.more in
-    let same : over G.calls z ≡ (λ s. told_whole g.limit (bytes_at w0.files.contents w0.files.input (g.place s))) = λ i s. old.comes s i in
-    ap m (sym same) ∙ G.stands z ∙ ap (λ y. did G.calls (next y)) same
+use Rattle.cd_run.proofs.Running.{over_files}
 
 module _ (g : Setting) (m : Seen → Run) (t : List Held) (left : List ℕ) (w0 w w' : Outside) (first : Option Site) (lines lines' : List JournalLine) (before now : ℕ) (closes : List Call) (c : Closes t first lines lines' before now closes) (ended : w'.log ≡ w.log ++ map (event g.place) closes) where
   all_log : (calls : List Call) → w.log ≡ w0.log ++ map (event g.place) calls → w'.log ≡ w0.log ++ map (event g.place) (calls ++ closes)
@@ -40,7 +31,7 @@ module _ (g : Setting) (m : Seen → Run) (t : List Held) (left : List ℕ) (w0 
     fits = F.fits;
     closing = subst (λ l. AreCloses (reverse l) closes) (sym F.standing) c.are;
     outcome = inl (F.failed, F.ends);
-    whole = λ tells. tt;
+    whole = F.whole;
   })
 
   pub closed_well : {T : Type 0} (x : T) (result : Result T RunFault) → first ≡ None → result ≡ Ok x → Going g m t left (behind (λ all. done)) w0 w → Ran g m result w0 w'
@@ -52,7 +43,7 @@ module _ (g : Setting) (m : Seen → Run) (t : List Held) (left : List ℕ) (w0 
     fits = G.fits;
     closing = subst (λ l. AreCloses (reverse l) closes) (sym G.standing) c.are;
     outcome = (G.stands, G.clean, sym c.first_is ∙ none);
-    whole = λ tells. over_files g m t left (λ all. done) w0 w tells G;
+    whole = λ tells. over_files g m t left (behind (λ all. done)) w0 w tells G;
   })
 
   pub closed_badly : {T : Type 0} (s : Site) (result : Result T RunFault) → first ≡ Some s → result ≡ Err (CloseFault s) → Going g m t left (behind (λ all. done)) w0 w → Ran g m result w0 w'
@@ -73,7 +64,36 @@ joined g m t left w0 w w' (Ok x) None result lines lines' before now closes G c 
 joined g m t left w0 w w' (Ok x) (Some s) result lines lines' before now closes G c e is = closed_badly g m t left w0 w w' (Some s) lines lines' before now closes c e s result refl is G
 joined g m t left w0 w w' (Err f) first result lines lines' before now closes F c e is = closed_fault g m t left w0 w w' first lines lines' before now closes c e f result is F
 
-pub rose_joined : {T : Type 0} (answer : Result T RunFault) (first : Option Site) (result : Result T RunFault) (before now : ℕ) → IsJoined answer first result → RoseIfSome first before now → RoseAtEnd answer result before now
-rose_joined (Ok x) None result before now is h = subst (λ r. RoseAtEnd (Ok x) r before now) (sym is) tt
-rose_joined (Ok x) (Some s) result before now is h = subst (λ r. RoseAtEnd (Ok x) r before now) (sym is) (h refl)
-rose_joined (Err f) first result before now is h = is
+-- ---- the count of failed calls
+
+none_stuck : (cs : List Call) (n : ℕ) → first_stuck cs ≡ None → count_after cs n ≡ n
+none_stuck [] n none = refl
+none_stuck (Sticking s d ∷ cs) n none = absurd cc
+none_stuck (Closing s d ∷ cs) n none = none_stuck cs n none
+none_stuck (Opening s d ∷ cs) n none = none_stuck cs n none
+none_stuck (Refusing s ∷ cs) n none = none_stuck cs n none
+none_stuck (Giving s d b ∷ cs) n none = none_stuck cs n none
+none_stuck (Passing s d b ∷ cs) n none = none_stuck cs n none
+none_stuck (Ending s d ∷ cs) n none = none_stuck cs n none
+none_stuck (Breaking s d ∷ cs) n none = none_stuck cs n none
+none_stuck (Writing s d b ∷ cs) n none = none_stuck cs n none
+none_stuck (Losing s d ∷ cs) n none = none_stuck cs n none
+
+stays_up : (cs : List Call) (n k : ℕ) → Rose n k → Rose n (count_after cs k)
+stays_up [] n k up = up
+stays_up (Sticking s d ∷ cs) n k up = stays_up cs n (risen k) (omega (arith, up))
+stays_up (Closing s d ∷ cs) n k up = stays_up cs n k up
+stays_up (Opening s d ∷ cs) n k up = stays_up cs n k up
+stays_up (Refusing s ∷ cs) n k up = stays_up cs n k up
+stays_up (Giving s d b ∷ cs) n k up = stays_up cs n k up
+stays_up (Passing s d b ∷ cs) n k up = stays_up cs n k up
+stays_up (Ending s d ∷ cs) n k up = stays_up cs n k up
+stays_up (Breaking s d ∷ cs) n k up = stays_up cs n k up
+stays_up (Writing s d b ∷ cs) n k up = stays_up cs n k up
+stays_up (Losing s d ∷ cs) n k up = stays_up cs n k up
+
+pub rose_joined : {T : Type 0} (t : List Held) (answer : Result T RunFault) (first : Option Site) (result : Result T RunFault) (lines lines' : List JournalLine) (before now : ℕ) (closes : List Call)
+    → IsJoined answer first result → Closes t first lines lines' before now closes → RoseIfSome first before now → RoseAtEnd answer result before now
+rose_joined t (Ok x) None result lines lines' before now closes is c h = subst (λ r. RoseAtEnd (Ok x) r before now) (sym is) (c.count ∙ none_stuck closes before (sym c.first_is))
+rose_joined t (Ok x) (Some s) result lines lines' before now closes is c h = subst (λ r. RoseAtEnd (Ok x) r before now) (sym is) (h refl)
+rose_joined t (Err f) first result lines lines' before now closes is c h = (is, λ n up. subst (λ k. Rose n k) (sym c.count) (stays_up closes n before up))

@@ -1,5 +1,7 @@
 -- A turn of a statement's run: up to a read, and the read.
-use Rattle.std.proofs.Common.{◌≡◌, ◌≢◌, ℕ, zero, suc, ◌<◌, ◌⊎◌, inl, inr, Bool, true, false, List, length, get_or, Ok, refl, ap, sym, ◌∙◌, subst, arith}
+use Rattle.std.proofs.Common.{◌≡◌, ◌≢◌, ℕ, zero, suc, ◌<◌, ◌⊎◌, inl, inr, Bool, true, false, List, [], ◌∷◌, ◌++◌, length, get_or, Ok, refl, ap, sym, ◌∙◌, subst, arith}
+use Rattle.std.specs.Prelude.{Contains}
+use Rattle.std.proofs.lemmas.List.Elements.{Contains-append_left}
 use Rattle.cd_elem.specs.declared.site.Site.{Site}
 use Rattle.cd_elem.specs.declared.value.Value.{Value as Answer}
 use Rattle.cd_meaning.specs.Stream.{Value}
@@ -10,9 +12,13 @@ use Rattle.cd_meaning.specs.Values.{value_meaning}
 use Rattle.cd_step.specs.Parts.{Part, Reads, IsReads}
 use Rattle.cd_world.specs.declared.event.Descriptor.{Descriptor}
 use Rattle.cd_scope.specs.declared.table.Held.{Held}
+use Rattle.cd_scope.specs.declared.table.Ticket.{Ticket}
+use Rattle.cd_scope.specs.Calls.{held_at}
 use Rattle.cd_scope.specs.Due.{Setting}
 use Rattle.cd_run.specs.Going.{Outside, Going}
-use Rattle.cd_node.specs.Nodes.{AreHeld, AnswersNode, fed_node}
+use Rattle.cd_node.specs.Nodes.{AreHeld, AnswersNode, GoesNode, fed_node}
+use Rattle.cd_node.specs.declared.protocol.NodeMove.{NodeMove}
+use Rattle.cd_node.specs.declared.protocol.NodeMove.TheVariants.{Release}
 use Rattle.cd_node.specs.declared.protocol.NodeInput.{NodeInput}
 use Rattle.cd_node.specs.declared.protocol.NodeInput.TheVariants.{Start, Chunk, End, Next, Acquired, Gave, GaveEnd, Wrote, Closed}
 use Rattle.cd_run.specs.declared.drive.Pause.{Pause}
@@ -89,3 +95,13 @@ other_site sites s x own none = λ (e : x ≡ s). subst is_false (sym none ∙ a
   is_false : Bool → Type 0
   is_false true = ⊥
   is_false false = Unit {0}
+
+-- ---- what is held of other sites stays
+
+pub acquire_stays : (s : ℕ) (d : Descriptor) (t t' : List Held) → t' ≡ t ++ held_at s d ∷ [] → (h : Held) → Contains t h → Contains t' h
+acquire_stays s d t t' more h has = subst (λ (l : List Held). Contains l h) (sym more) (Contains-append_left t (held_at s d ∷ []) h has)
+
+pub release_stays : (place : ℕ → Place) (p q : Part) (mv : NodeMove) → GoesNode place mv p q → (ticket : Ticket) → mv ≡ Release ticket → (sites : ℕ → Bool) → q.sites ≡ sites → (t t' : List Held)
+    → ((h : Held) → h.site.0 ≢ ticket.site.0 → Contains t h → Contains t' h) → (h : Held) → sites h.site.0 ≡ false → Contains t h → Contains t' h
+release_stays place p q mv goes_by ticket is sites same t t' others h none has =
+    others h (other_site sites ticket.site.0 h.site.0 (sym (ap (λ (f : ℕ → Bool). f ticket.site.0) same) ∙ (subst (λ x. GoesNode place x p q) is goes_by).own) none) has

@@ -22,13 +22,13 @@ use Rattle.cd_scope.specs.declared.table.Held.{Held}
 use Rattle.cd_scope.specs.Uses.{use_at, name_at, HasFile, WritesAt}
 use Rattle.cd_scope.specs.Calls.{Call, Opening, Refusing, Writing, Losing, Closing, Sticking, event, over, effects_of, does, did, held_at, without, opens}
 use Rattle.cd_scope.specs.Due.{Setting, Due, Fits, GoesOn, Clean, IsNext}
-use Rattle.cd_run.specs.Going.{Outside, Going, AreSeparate, Filed}
-use Rattle.cd_run.specs.Ends.{EndsBy, FailsBy, EndsIn, HaltsSo, Faulted}
+use Rattle.cd_run.specs.Going.{Outside, Going, AreSeparate, Filed, files_seen}
+use Rattle.cd_run.specs.Ends.{EndsBy, FailsBy, EndsIn, HaltsSo, StopsSo, Faulted}
 use Rattle.cd_scope.specs.Table.{ClosesWith, IsNew, closing, open_of}
 use Rattle.cd_scope.proofs.Openings.{not_opened}
 use Rattle.cd_scope.proofs.Lists.{each_snoc}
 use Rattle.cd_scope.proofs.Further.{open_snoc, does_does}
-use Rattle.cd_run.proofs.Running.{stands_call}
+use Rattle.cd_run.proofs.Running.{over_files, stands_call}
 use Rattle.cd_run.proofs.Opened.{was_opened, gave_none}
 use Rattle.cd_run.proofs.FileSteps.{IsQuiet, quiet_counted, Leaves, leaves_filed, opening_filed, closing_filed}
 
@@ -56,8 +56,8 @@ module _ {left : List ℕ} (g : Setting) (m : Seen → Run) (t : List Held) (tod
   -- a call that failed
   pub faulted_in : (t' : List Held) (w' : Outside) (c : Call) (f : RunFault) → (G : Going g m t left (λ all z. does (effects_of c) (todo all z)) w0 w) → w'.log ≡ w.log ++ event g.place c ∷ []
       → Due m G.calls c → Fits g G.calls c → opens c t ≡ t' → ((calls : List Call) → EndsIn calls c → FailsBy f calls) → ((calls : List Call) → IsNext m calls [] → EndsBy f m calls)
-      → Faulted g m f t' w0 w'
-  faulted_in t' w' c f G log due fits after fails ends = record {
+      → ((r : Run) (calls : List Call) → StopsSo f r calls) → Faulted g m f t' w0 w'
+  faulted_in t' w' c f G log due fits after fails ends whole = record {
     calls = G.calls ++ c ∷ [];
     log = logged g.place w0.log w.log w'.log G.calls c G.log log;
     due = each_snoc (Due m) G.calls c G.due due;
@@ -65,19 +65,21 @@ module _ {left : List ℕ} (g : Setting) (m : Seen → Run) (t : List Held) (tod
     standing = open_snoc G.calls c ∙ ap (opens c) G.standing ∙ after;
     failed = fails (G.calls ++ c ∷ []) (record { front = G.calls; calls_are = refl; clean = G.clean });
     ends = ends (G.calls ++ c ∷ []) (λ z. (_, stands_call m todo c G.calls G.stands z));
+    whole = λ tells. whole (m (files_seen g w0)) (G.calls ++ c ∷ []);
   }
 
   -- refused for want of memory
   pub refused : (w' : Outside) → (G : Going g m t left todo w0 w) → w'.log ≡ w.log → Faulted g m NoMemory t w0 w'
-  refused w' G same = record { calls = G.calls; log = same ∙ G.log; due = G.due; fits = G.fits; standing = G.standing; failed = G.clean; ends = λ z. (_, G.stands z) }
+  refused w' G same = record { calls = G.calls; log = same ∙ G.log; due = G.due; fits = G.fits; standing = G.standing; failed = G.clean; ends = λ z. (_, G.stands z); whole = λ tells. tt }
 
   pub refused_by : (w' : Outside) (listed : WorldError → List Event) (e : WorldError) → e ≡ NoSpace → listed NoSpace ≡ [] → (G : Going g m t left todo w0 w) → w'.log ≡ w.log ++ listed e → Faulted g m NoMemory t w0 w'
   refused_by w' listed e is none G log = refused w' G (log ∙ ap (λ (x : WorldError). w.log ++ listed x) is ∙ ap (λ (l : List Event). w.log ++ l) none ∙ append-nil w.log)
 
   -- what is left stops
-  pub stopped : (f : RunFault) (h : Halt) → ((calls : List Call) → Clean calls → FailsBy f calls) → ((calls : List Call) → HaltsSo m calls h → EndsBy f m calls) → ((all z : Seen) → todo all z ≡ Ends start (Halts h))
+  pub stopped : (f : RunFault) (h : Halt) → ((calls : List Call) → Clean calls → FailsBy f calls) → ((calls : List Call) → HaltsSo m calls h → EndsBy f m calls)
+      → ((r : Run) (calls : List Call) → r ≡ did calls (Ends start (Halts h)) → StopsSo f r calls) → ((all z : Seen) → todo all z ≡ Ends start (Halts h))
       → Going g m t left todo w0 w → Faulted g m f t w0 w
-  stopped f h fails ends stops G = record {
+  stopped f h fails ends over_whole stops G = record {
     calls = G.calls;
     log = G.log;
     due = G.due;
@@ -85,6 +87,7 @@ module _ {left : List ℕ} (g : Setting) (m : Seen → Run) (t : List Held) (tod
     standing = G.standing;
     failed = fails G.calls G.clean;
     ends = ends G.calls (λ z. G.stands z ∙ ap (did G.calls) (stops (over G.calls z) z));
+    whole = λ tells. over_whole (m (files_seen g w0)) G.calls (over_files g m t left todo w0 w tells G ∙ ap (did G.calls) (stops (files_seen g w0) _));
   }
 
   -- ---- opens and closes
@@ -108,6 +111,7 @@ module _ {left : List ℕ} (g : Setting) (m : Seen → Run) (t : List Held) (tod
     standing = open_snoc G.calls (Refusing site.0) ∙ G.standing;
     failed = record { front = G.calls; calls_are = refl; clean = G.clean };
     ends = λ z. (_, stands_call m (λ all z. does (OpenSite site.0 ∷ []) (todo all z)) (Refusing site.0) G.calls G.stands z);
+    whole = λ tells. tt;
   }
 
   pub close_step : {T : Type 0} (w' : Outside) (s : ℕ) (d : Descriptor) (result : Result T CloseRefused) → Going g m t left (λ all z. does (Close s ∷ []) (todo all z)) w0 w → w'.log ≡ w.log ++ Closed d ∷ []
@@ -120,7 +124,7 @@ module _ {left : List ℕ} (g : Setting) (m : Seen → Run) (t : List Held) (tod
   pub close_fails : (w' : Outside) (site : Site) (d : Descriptor) → Going g m t left (λ all z. does (Close site.0 ∷ []) (todo all z)) w0 w → w'.log ≡ w.log ++ CloseFailed d ∷ []
       → Contains t (held_at site.0 d) → Faulted g m (CloseFaulted site) (without site.0 d t) w0 w'
   close_fails w' site d G log there =
-      faulted_in (without site.0 d t) w' (Sticking site.0 d) (CloseFaulted site) G log (λ z. (_, G.stands z)) (subst (λ l. Contains l (held_at site.0 d)) (sym G.standing) there) refl (λ calls is. (d, is)) (λ calls next. next)
+      faulted_in (without site.0 d t) w' (Sticking site.0 d) (CloseFaulted site) G log (λ z. (_, G.stands z)) (subst (λ l. Contains l (held_at site.0 d)) (sym G.standing) there) refl (λ calls is. (d, is)) (λ calls next. next) (λ r calls. tt)
 
   -- the same to be done
   pub going_same : (other : Seen → Seen → Run) → ((all z : Seen) → todo all z ≡ other all z) → Going g m t left todo w0 w → Going g m t left other w0 w
@@ -156,6 +160,7 @@ module _ {left : List ℕ} (g : Setting) (m : Seen → Run) (t : List Held) (tod
     standing = open_snoc G.calls (Losing site.0 d) ∙ G.standing;
     failed = (d, record { front = G.calls; calls_are = refl; clean = G.clean });
     ends = λ z. (_, stands_call m (λ all z. does (Put site.0 b ∷ more) (todo all z)) (Losing site.0 d) G.calls G.stands z);
+    whole = λ tells. tt;
   }
 
 -- what is due of a chunk, after one write more

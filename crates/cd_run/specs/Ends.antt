@@ -1,5 +1,5 @@
 -- How a run may end.
-use Rattle.std.specs.Prelude.{◌≡◌, ℕ, List, [], ◌∷◌, ◌++◌, map, Result, Ok, Err}
+use Rattle.std.specs.Prelude.{◌≡◌, ℕ, List, [], ◌∷◌, ◌++◌, map, IsTrue, Result, Ok, Err}
 use Rattle.cd_meaning.specs.Stream.{Halt, Stop, Decode as DecodeStop, ReadBad, Long, Halts, Effect}
 use Rattle.cd_meaning.specs.Run.{start, Run, Ends}
 use Rattle.cd_meaning.specs.RunShapes.{Seen}
@@ -10,7 +10,7 @@ use Rattle.cd_run.specs.declared.fault.RunFault.TheVariants.{Decode, AcquireFaul
 use Rattle.cd_scope.specs.declared.table.Held.{Held}
 use Rattle.cd_scope.specs.Calls.{Call, Refusing, Passing, Breaking, Losing, Sticking, event, over, did, does, left_open}
 use Rattle.cd_scope.specs.Due.{Setting, Each, Due, Fits, Clean, IsNext}
-use Rattle.cd_run.specs.Going.{Outside, Going}
+use Rattle.cd_run.specs.Going.{Outside, Going, files_seen}
 
 -- m does just what the calls did, and goes no further for this reason
 abbrev pub HaltsSo : (Seen → Run) → List Call → Halt → Type 0
@@ -25,6 +25,16 @@ EndsBy (AcquireFault s) m calls = IsNext m calls []
 EndsBy (WriteFault s) m calls = IsNext m calls []
 EndsBy (CloseFault s) m calls = IsNext m calls []
 EndsBy NoMemory m calls = IsNext m calls []
+
+-- where it is m that stops, by a fault of a decoder or at the limit, then r does just what the calls did and stops so too
+abbrev pub StopsSo : RunFault → Run → List Call → Type 0
+StopsSo (Decode f) r calls = r ≡ did calls (Ends start (Halts (Stop (DecodeStop f))))
+StopsSo (TooLong s) r calls = r ≡ did calls (Ends start (Halts (Stop (Long s.0))))
+StopsSo (AcquireFault s) r calls = Unit {0}
+StopsSo (ReadFault s) r calls = Unit {0}
+StopsSo (WriteFault s) r calls = Unit {0}
+StopsSo (CloseFault s) r calls = Unit {0}
+StopsSo NoMemory r calls = Unit {0}
 
 -- this call is the last one, and no call before it ended the run
 pub record EndsIn (calls : List Call) (c : Call) : Type 0 where
@@ -51,6 +61,7 @@ pub record Faulted (g : Setting) (m : Seen → Run) (f : RunFault) (t : List Hel
   pub standing : left_open calls ≡ t
   pub failed : FailsBy f calls
   pub ends : EndsBy f m calls
+  pub whole : IsTrue g.tells → StopsSo f (m (files_seen g w0)) calls
 
 -- ---- steps
 

@@ -50,6 +50,10 @@ pub record IsFront (file more : List ℕ) (calls : List Call) (s : ℕ) : Type 0
 abbrev pub to_come : Setting → List Call → (ℕ → List ℕ) → Seen
 to_come g calls more s = told_whole (g.limit - length (given_of s calls)) (more s)
 
+-- all that the files held before, up to the limit
+abbrev pub files_seen : Setting → Outside → Seen
+files_seen g w s = told_whole g.limit (bytes_at w.files.contents w.files.input (g.place s))
+
 -- each descriptor and each site stands once
 abbrev pub AreApart : List Held → Type 0
 AreApart [] = Unit {0}

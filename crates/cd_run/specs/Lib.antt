@@ -2,4 +2,6 @@ pub mod Ends
 pub mod Going
 pub mod Paused
 pub mod Ran
+pub mod Runners
+pub mod Scripts
 pub mod Statements

@@ -1,11 +1,12 @@
 // A statement's run.
-ghost use Rattle.std.specs.Prelude.{◌≡◌, ◌<◌, ◌≤◌, ◌+◌, ℕ, List, true, false, IsTrue, IfOk, length, get_or};
+ghost use Rattle.std.specs.Prelude.{◌≡◌, ◌<◌, ◌≤◌, ◌+◌, ℕ, List, Contains, true, false, IsTrue, IfOk, length, get_or};
 ghost use Rattle.cd_elem.specs.Limits.{chunk_limit};
 ghost use Rattle.cd_meaning.specs.Run.{Run};
 ghost use Rattle.cd_meaning.specs.RunShapes.{Seen};
 ghost use Rattle.cd_meaning.specs.Stream.{Value as Answer};
 ghost use Rattle.cd_world.specs.Live.{Open};
 ghost use Rattle.cd_step.specs.Parts.{Fresh};
+ghost use Rattle.cd_scope.specs.declared.table.Held.{Held as HeldItem};
 ghost use Rattle.cd_scope.specs.Due.{Setting};
 ghost use Rattle.cd_scope.specs.State.{held_in, room_in};
 ghost use Rattle.cd_scope.specs.Table.{IsOpen};
@@ -56,6 +57,7 @@ fn advance<W: World, N: StatementNode>(
     ensures stands { N.stands node.new (places_of sites.now) }
     ensures held { AreHeld (held_in scope.new) (N.seen node.new) }
     ensures room { PausedSpends (fed_node first (N.seen node.old)) (room_in scope.old) result (N.seen node.new) (room_in scope.new) }
+    ensures stays { (h : HeldItem) → (N.seen node.old).sites h.site.0 ≡ false → Contains (held_in scope.old) h → Contains (held_in scope.new) h }
     ensures spent { (most : ℕ) → OpensAtMost (fed_node first (N.seen node.old)) most → room_in scope.old ≤ room_in scope.new + most }
     ensures open { (base : List Open) → IsOpen (places_of sites.now) base (held_in scope.old) (W.live world.old) → IsOpen (places_of sites.now) base (held_in scope.new) (W.live world.new) }
     ensures cause { HasFault (W.faults world.old) (W.faults world.new) result }
@@ -122,6 +124,7 @@ fn run_to_end<W: World, N: StatementNode>(
     requires room { OpensAtMost (N.seen node.old) (room_in scope.old) }
     requires open { (base : List Open) × IsOpen (places_of sites.now) base (held_in scope.old) (W.live world.old) }
     ensures held { AreHeld (held_in scope.new) (N.seen node.new) }
+    ensures stays { (h : HeldItem) → (N.seen node.old).sites h.site.0 ≡ false → Contains (held_in scope.old) h → Contains (held_in scope.new) h }
     ensures spent { (most : ℕ) → OpensAtMost (N.seen node.old) most → room_in scope.old ≤ room_in scope.new + most }
     ensures open { (base : List Open) → IsOpen (places_of sites.now) base (held_in scope.old) (W.live world.old) → IsOpen (places_of sites.now) base (held_in scope.new) (W.live world.new) }
     ensures cause { HasFault (W.faults world.old) (W.faults world.new) result }
@@ -167,6 +170,7 @@ pub fn run_node<W: World, N: StatementNode>(
     requires held { AreHeld (held_in scope.old) (N.seen node) }
     requires room { OpensAtMost (N.seen node) (room_in scope.old) }
     requires open { (base : List Open) × IsOpen (places_of sites.now) base (held_in scope.old) (W.live world.old) }
+    ensures stays { (h : HeldItem) → (N.seen node).sites h.site.0 ≡ false → Contains (held_in scope.old) h → Contains (held_in scope.new) h }
     ensures spent { (most : ℕ) → OpensAtMost (N.seen node) most → room_in scope.old ≤ room_in scope.new + most }
     ensures open { (base : List Open) → IsOpen (places_of sites.now) base (held_in scope.old) (W.live world.old) → IsOpen (places_of sites.now) base (held_in scope.new) (W.live world.new) }
     ensures cause { HasFault (W.faults world.old) (W.faults world.new) result }

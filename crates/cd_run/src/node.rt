@@ -6,7 +6,7 @@ ghost use Rattle.cd_scope.specs.State.{held_in};
 ghost use Rattle.cd_node.specs.Nodes.{AnswersNode, AreHeld, NodeStepped, fed_node};
 
 use cd_elem::NoMemory;
-use cd_node::{NodeInput, NodeMove};
+use cd_node::{Node, NodeInput, NodeMove};
 use cd_scope::Scope;
 use std::alloc::Global;
 
@@ -34,4 +34,22 @@ pub trait StatementNode {
     fn abandon(self, scope: &mut Scope)
         requires held { AreHeld (held_in scope.old) (seen self) }
         ensures scope { scope.new ≡ scope.old };
+}
+
+impl StatementNode for Node {
+    ghost use Rattle.cd_node.specs.Trees.{IsWell, StandsAt, seen as seen_node};
+
+    ghost seen = { seen_node };
+
+    ghost well = { IsWell };
+
+    ghost stands = { StandsAt };
+
+    fn step(&mut self, alloc: Global, input: NodeInput) -> Result<NodeMove, NoMemory> {
+        Node::step(self, alloc, input)
+    }
+
+    fn abandon(self, scope: &mut Scope) {
+        Node::abandon(self, scope)
+    }
 }

@@ -1,5 +1,6 @@
 // The lines of results.
 ghost use Rattle.std.specs.Prelude.{◌≡◌, ℕ, List, IsTrue, IfOk, string_bytes};
+ghost use Rattle.cd_meaning.specs.Places.{WritesOutput};
 ghost use Rattle.cd_meaning.specs.Run.{Run, start, acts_at};
 ghost use Rattle.cd_meaning.specs.RunShapes.{Seen};
 ghost use Rattle.cd_meaning.specs.Scripts.{value_puts};
@@ -9,7 +10,7 @@ ghost use Rattle.cd_scope.specs.declared.table.Held.{Held};
 ghost use Rattle.cd_scope.specs.Due.{Setting};
 ghost use Rattle.cd_scope.specs.Table.{IsOpen};
 ghost use Rattle.cd_run.specs.Ends.{HasFault, MovedOn};
-ghost use Rattle.cd_run.specs.Going.{Outside, Going, outside, places_of};
+ghost use Rattle.cd_run.specs.Going.{Outside, Going, outside};
 ghost use Rattle.cd_run.specs.Statements.{behind, value_line};
 
 use crate::fault::RunFault;
@@ -39,7 +40,7 @@ fn line_of(alloc: Global, value: &Value) -> Result<String, NoMemory>
 pub fn print_value<W: World>(alloc: Global, world: &mut W, value: &Value) -> Result<(), RunFault>
     ensures live { W.live world.new ≡ W.live world.old }
     ensures cause { HasFault (W.faults world.old) (W.faults world.new) result }
-    ensures told { IsTrue W.tells_log → (g : Setting) (base : List Open) (t : List Held) (sites : _) → g.place ≡ places_of sites → g.tells ≡ W.tells_files → IsOpen g.place base t (W.live world.old)
+    ensures told { IsTrue W.tells_log → (g : Setting) (base : List Open) (t : List Held) → g.place 0 ≡ WritesOutput → g.tells ≡ W.tells_files → IsOpen g.place base t (W.live world.old)
         → (m : Seen → Run) (left : List ℕ) (next : Seen → Run) (w0 : Outside) → Going g m t left (behind (λ all. acts_at start (value_puts (value_meaning value.now)) (next all))) w0 (outside (W.log world.old) (W.files world.old))
         → MovedOn g m result t left (λ x. behind next) w0 (outside (W.log world.new) (W.files world.new)) }
 {

@@ -3,6 +3,7 @@ use Rattle.std.specs.Prelude.{Contains}
 use Rattle.cd_elem.specs.declared.site.Site.{Site}
 use Rattle.cd_meaning.specs.Places.{Place}
 use Rattle.cd_world.specs.Live.{Open}
+use Rattle.cd_scope.specs.declared.table.Held.{Held}
 use Rattle.cd_scope.specs.Calls.{held_at}
 use Rattle.cd_scope.specs.State.{held_in, room_in}
 use Rattle.cd_scope.specs.Table.{IsOpen}
@@ -14,6 +15,7 @@ use Rattle.cd_run.specs.Going.{outside, places_of}
 use Rattle.cd_run.specs.Statements.{Spends, within, left_run}
 use Rattle.cd_run.proofs.MoveSteps.{emits, needs, acquires, reads, writes, releases, is_done, faults, emits_falls, needs_falls, acquires_falls, writes_falls, releases_falls, next_answers, end_answers, acquired_answers, wrote_answers, closed_answers, emits_forgets, needs_forgets, acquires_forgets, reads_forgets, writes_forgets, releases_forgets, fed_sites, acquired_there, writes_at, at_read, as_open}
 use Rattle.cd_run.proofs.Rooms.{acquires_room, acquires_spends, emits_spends, needs_spends, reads_spends, releases_spends, spends_after, spent, writes_spends}
+use Rattle.cd_run.proofs.RunSteps.{acquire_stays, release_stays}
 use Rattle.cd_run.proofs.Steps.{refused}
 use Rattle.cd_run.proofs.WriteSteps.{is_writable}
 use Rattle.cd_run.proofs.drive.advance.Goals as goal
@@ -106,6 +108,7 @@ loop-made-preserved-in-Emit g c = record {
   sites = c.step.ensures.kept.1 ∙ fed_sites c.loop-made.input (g.N.StatementNode.seen c.loop-made.node) ∙ c.loop-made.invariant.sites;
   stands = c.step.ensures.places (places_of c.args.sites.now) c.loop-made.invariant.stands;
   held = (held_kept (held_in c.loop-made.scope) (fed_node c.loop-made.input (g.N.StatementNode.seen c.loop-made.node)) (g.N.StatementNode.seen c.step.new.self) c.step.ensures.kept c.loop-made.invariant.held);
+  stays = λ h none has. c.loop-made.invariant.stays h none has;
   room = spends_after (fed_node c.args.first (g.N.StatementNode.seen c.args.node.now)) (fed_node c.loop-made.input (g.N.StatementNode.seen c.loop-made.node)) (g.N.StatementNode.seen c.step.new.self) (room_in c.args.scope.now) (room_in c.loop-made.scope) (room_in c.loop-made.scope) c.loop-made.invariant.room (emits_spends (places_of c.args.sites.now) (fed_node c.loop-made.input (g.N.StatementNode.seen c.loop-made.node)) (g.N.StatementNode.seen c.step.new.self) c.in-Ok.made (c.in-Ok.ensures.law (places_of c.args.sites.now) c.loop-made.invariant.stands) (room_in c.loop-made.scope) c.in-Emit.chunk c.in-Emit.is);
   calm = c.loop-made.invariant.calm;
   «open» = λ base o. c.loop-made.invariant.open base o;
@@ -120,6 +123,7 @@ loop-made-preserved-in-Need g c = record {
   sites = c.step.ensures.kept.1 ∙ fed_sites c.loop-made.input (g.N.StatementNode.seen c.loop-made.node) ∙ c.loop-made.invariant.sites;
   stands = c.step.ensures.places (places_of c.args.sites.now) c.loop-made.invariant.stands;
   held = (held_kept (held_in c.loop-made.scope) (fed_node c.loop-made.input (g.N.StatementNode.seen c.loop-made.node)) (g.N.StatementNode.seen c.step.new.self) c.step.ensures.kept c.loop-made.invariant.held);
+  stays = λ h none has. c.loop-made.invariant.stays h none has;
   room = spends_after (fed_node c.args.first (g.N.StatementNode.seen c.args.node.now)) (fed_node c.loop-made.input (g.N.StatementNode.seen c.loop-made.node)) (fed_node End (g.N.StatementNode.seen c.step.new.self)) (room_in c.args.scope.now) (room_in c.loop-made.scope) (room_in c.loop-made.scope) c.loop-made.invariant.room (needs_spends (places_of c.args.sites.now) (fed_node c.loop-made.input (g.N.StatementNode.seen c.loop-made.node)) (g.N.StatementNode.seen c.step.new.self) c.in-Ok.made (c.in-Ok.ensures.law (places_of c.args.sites.now) c.loop-made.invariant.stands) (room_in c.loop-made.scope) c.in-Need.is);
   calm = c.loop-made.invariant.calm;
   «open» = λ base o. c.loop-made.invariant.open base o;
@@ -134,6 +138,7 @@ loop-made-preserved-in-Ok-acquire g c = record {
   sites = c.step.ensures.kept.1 ∙ fed_sites c.loop-made.input (g.N.StatementNode.seen c.loop-made.node) ∙ c.loop-made.invariant.sites;
   stands = c.step.ensures.places (places_of c.args.sites.now) c.loop-made.invariant.stands;
   held = acquired_there (held_in c.loop-made.scope) _ c.in-Acquire.site c.in-Ok-acquire.ticket (g.N.StatementNode.seen c.step.new.self) (ap (λ (x : Site). x.0) c.in-Ok-acquire.ensures.site) c.in-Ok-acquire.ensures.table (held_kept (held_in c.loop-made.scope) (fed_node c.loop-made.input (g.N.StatementNode.seen c.loop-made.node)) (g.N.StatementNode.seen c.step.new.self) c.step.ensures.kept c.loop-made.invariant.held);
+  stays = λ h none has. acquire_stays c.in-Acquire.site.0 c.in-Ok-acquire.ticket.descriptor (held_in c.loop-made.scope) (held_in c.acquire.new.scope) c.in-Ok-acquire.ensures.table h (c.loop-made.invariant.stays h none has);
   room = spends_after (fed_node c.args.first (g.N.StatementNode.seen c.args.node.now)) (fed_node c.loop-made.input (g.N.StatementNode.seen c.loop-made.node)) (fed_node (Acquired c.in-Ok-acquire.ticket) (g.N.StatementNode.seen c.step.new.self)) (room_in c.args.scope.now) (room_in c.loop-made.scope) (room_in c.acquire.new.scope) c.loop-made.invariant.room (acquires_spends (places_of c.args.sites.now) (fed_node c.loop-made.input (g.N.StatementNode.seen c.loop-made.node)) (g.N.StatementNode.seen c.step.new.self) c.in-Ok.made (c.in-Ok.ensures.law (places_of c.args.sites.now) c.loop-made.invariant.stands) (room_in c.loop-made.scope) c.in-Acquire.site c.in-Ok-acquire.ticket (room_in c.acquire.new.scope) c.in-Acquire.is c.in-Ok-acquire.ensures.less_room);
   calm = c.in-Ok-acquire.ensures.cause ∙ c.loop-made.invariant.calm;
   «open» = λ base o. c.acquire.ensures.open base (c.loop-made.invariant.open base o);
@@ -148,6 +153,7 @@ loop-made-preserved-in-Ok-write_chunk g c = record {
   sites = c.step.ensures.kept.1 ∙ fed_sites c.loop-made.input (g.N.StatementNode.seen c.loop-made.node) ∙ c.loop-made.invariant.sites;
   stands = c.step.ensures.places (places_of c.args.sites.now) c.loop-made.invariant.stands;
   held = (held_kept (held_in c.loop-made.scope) (fed_node c.loop-made.input (g.N.StatementNode.seen c.loop-made.node)) (g.N.StatementNode.seen c.step.new.self) c.step.ensures.kept c.loop-made.invariant.held);
+  stays = λ h none has. c.loop-made.invariant.stays h none has;
   room = spends_after (fed_node c.args.first (g.N.StatementNode.seen c.args.node.now)) (fed_node c.loop-made.input (g.N.StatementNode.seen c.loop-made.node)) (g.N.StatementNode.seen c.step.new.self) (room_in c.args.scope.now) (room_in c.loop-made.scope) (room_in c.loop-made.scope) c.loop-made.invariant.room (writes_spends (places_of c.args.sites.now) (fed_node c.loop-made.input (g.N.StatementNode.seen c.loop-made.node)) (g.N.StatementNode.seen c.step.new.self) c.in-Ok.made (c.in-Ok.ensures.law (places_of c.args.sites.now) c.loop-made.invariant.stands) (room_in c.loop-made.scope) c.in-Write.site c.in-Write.descriptor c.in-Write.chunk c.in-Write.is);
   calm = c.in-Ok-write_chunk.ensures.cause ∙ c.loop-made.invariant.calm;
   «open» = λ base o. subst (λ (l : List Open). IsOpen (places_of c.args.sites.now) base (held_in c.loop-made.scope) l) (sym c.write_chunk.ensures.live) (c.loop-made.invariant.open base o);
@@ -162,9 +168,31 @@ loop-made-preserved g c = record {
   sites = c.step.ensures.kept.1 ∙ fed_sites c.loop-made.input (g.N.StatementNode.seen c.loop-made.node) ∙ c.loop-made.invariant.sites;
   stands = c.step.ensures.places (places_of c.args.sites.now) c.loop-made.invariant.stands;
   held = held_released (held_in c.loop-made.scope) _ c.in-Release.ticket (fed_node c.loop-made.input (g.N.StatementNode.seen c.loop-made.node)) (g.N.StatementNode.seen c.step.new.self) c.loop-made.invariant.held c.step.ensures.kept (subst (λ x. GoesNode (places_of c.args.sites.now) x (fed_node c.loop-made.input (g.N.StatementNode.seen c.loop-made.node)) (g.N.StatementNode.seen c.step.new.self)) c.in-Release.is (c.in-Ok.ensures.law (places_of c.args.sites.now) c.loop-made.invariant.stands)) c.release.ensures.others;
+  stays = λ h none has. release_stays (places_of c.args.sites.now) (fed_node c.loop-made.input (g.N.StatementNode.seen c.loop-made.node)) (g.N.StatementNode.seen c.step.new.self) c.in-Ok.made (c.in-Ok.ensures.law (places_of c.args.sites.now) c.loop-made.invariant.stands) c.in-Release.ticket c.in-Release.is (g.N.StatementNode.seen c.args.node.now).sites (c.step.ensures.kept.1 ∙ fed_sites c.loop-made.input (g.N.StatementNode.seen c.loop-made.node) ∙ c.loop-made.invariant.sites) (held_in c.loop-made.scope) (held_in c.release.new.scope) c.release.ensures.others h none (c.loop-made.invariant.stays h none has);
   room = subst (λ n. Spends (fed_node c.args.first (g.N.StatementNode.seen c.args.node.now)) (room_in c.args.scope.now) (g.N.StatementNode.seen c.step.new.self) n) (sym c.release.ensures.room) (spends_after (fed_node c.args.first (g.N.StatementNode.seen c.args.node.now)) (fed_node c.loop-made.input (g.N.StatementNode.seen c.loop-made.node)) (g.N.StatementNode.seen c.step.new.self) (room_in c.args.scope.now) (room_in c.loop-made.scope) (room_in c.loop-made.scope) c.loop-made.invariant.room (releases_spends (places_of c.args.sites.now) (fed_node c.loop-made.input (g.N.StatementNode.seen c.loop-made.node)) (g.N.StatementNode.seen c.step.new.self) c.in-Ok.made (c.in-Ok.ensures.law (places_of c.args.sites.now) c.loop-made.invariant.stands) (room_in c.loop-made.scope) c.in-Release.ticket c.in-Release.is));
   calm = c.in-Ok-release.ensures.cause ∙ c.loop-made.invariant.calm;
   «open» = λ base o. c.release.ensures.open (places_of c.args.sites.now) base (c.loop-made.invariant.open base o);
   forgets = λ x ig. releases_forgets (places_of c.args.sites.now) (fed_node c.loop-made.input (g.N.StatementNode.seen c.loop-made.node)) (g.N.StatementNode.seen c.step.new.self) c.in-Ok.made (c.in-Ok.ensures.law (places_of c.args.sites.now) c.loop-made.invariant.stands) x (c.loop-made.invariant.forgets x ig) c.in-Release.ticket c.in-Release.is;
   told = λ tells s base placed same o m left k w0 go. c.in-Ok-release.ensures.told tells s base same (as_open (places_of c.args.sites.now) s.place placed base (g.W.World.live c.loop-made.world) (held_in c.loop-made.scope) (c.loop-made.invariant.open base o)) m left (within (left_run (g.N.StatementNode.seen c.step.new.self)) k) w0 (releases s m k w0 (outside (g.W.World.log c.loop-made.world) (g.W.World.files c.loop-made.world)) (places_of c.args.sites.now) (fed_node c.loop-made.input (g.N.StatementNode.seen c.loop-made.node)) (g.N.StatementNode.seen c.step.new.self) c.in-Ok.made (c.in-Ok.ensures.law (places_of c.args.sites.now) c.loop-made.invariant.stands) (c.loop-made.invariant.told tells s base placed same o m left k w0 go) c.in-Release.ticket c.in-Release.is);
 }
+
+pub returns-in_default-clause-stays : goal.returns-in_default-clause-stays
+returns-in_default-clause-stays g c = λ h none has. c.loop-made.invariant.stays h none has
+
+pub returns-in-Read-clause-stays : goal.returns-in-Read-clause-stays
+returns-in-Read-clause-stays g c = λ h none has. c.loop-made.invariant.stays h none has
+
+pub returns-in-Done-clause-stays : goal.returns-in-Done-clause-stays
+returns-in-Done-clause-stays g c = λ h none has. c.loop-made.invariant.stays h none has
+
+pub returns-in-Fault-clause-stays : goal.returns-in-Fault-clause-stays
+returns-in-Fault-clause-stays g c = λ h none has. c.loop-made.invariant.stays h none has
+
+pub returns-in-Err-write_chunk-clause-stays : goal.returns-in-Err-write_chunk-clause-stays
+returns-in-Err-write_chunk-clause-stays g c = λ h none has. c.loop-made.invariant.stays h none has
+
+pub returns-in-Err-clause-stays : goal.returns-in-Err-clause-stays
+returns-in-Err-clause-stays g c = λ h none has. subst (λ (l : List Held). Contains l h) (sym c.in-Err.ensures.table) (c.loop-made.invariant.stays h none has)
+
+pub returns-in-Err-release-clause-stays : goal.returns-in-Err-release-clause-stays
+returns-in-Err-release-clause-stays g c = λ h none has. release_stays (places_of c.args.sites.now) (fed_node c.loop-made.input (g.N.StatementNode.seen c.loop-made.node)) (g.N.StatementNode.seen c.step.new.self) c.in-Ok.made (c.in-Ok.ensures.law (places_of c.args.sites.now) c.loop-made.invariant.stands) c.in-Release.ticket c.in-Release.is (g.N.StatementNode.seen c.args.node.now).sites (c.step.ensures.kept.1 ∙ fed_sites c.loop-made.input (g.N.StatementNode.seen c.loop-made.node) ∙ c.loop-made.invariant.sites) (held_in c.loop-made.scope) (held_in c.release.new.scope) c.release.ensures.others h none (c.loop-made.invariant.stays h none has)

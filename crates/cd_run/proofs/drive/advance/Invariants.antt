@@ -1,10 +1,12 @@
-use Rattle.std.proofs.Common.{◌≡◌, ◌+◌, ◌-◌, ◌*◌, ℕ, List, IsTrue}
+use Rattle.std.proofs.Common.{◌≡◌, ◌+◌, ◌-◌, ◌*◌, ℕ, List, IsTrue, false}
+use Rattle.std.specs.Prelude.{Contains}
 use Rattle.cd_meaning.specs.Known.{nothing_known}
 use Rattle.cd_meaning.specs.Run.{Run}
 use Rattle.cd_meaning.specs.RunShapes.{Seen}
 use Rattle.cd_meaning.specs.Stream.{Value as Answer}
 use Rattle.cd_meaning.proofs.Moves.Work.{count}
 use Rattle.cd_world.specs.Live.{Open}
+use Rattle.cd_scope.specs.declared.table.Held.{Held}
 use Rattle.cd_scope.specs.Due.{Setting}
 use Rattle.cd_scope.specs.State.{held_in, room_in}
 use Rattle.cd_scope.specs.Table.{IsOpen}
@@ -21,6 +23,7 @@ invariant-loop-made g l = record {
   sites : (g.N.StatementNode.seen l.node).sites ≡ (g.N.StatementNode.seen l.initial.node).sites;
   stands : g.N.StatementNode.stands l.node (places_of l.sites);
   held : AreHeld (held_in l.scope) (fed_node l.input (g.N.StatementNode.seen l.node));
+  stays : (h : Held) → (g.N.StatementNode.seen l.initial.node).sites h.site.0 ≡ false → Contains (held_in l.initial.scope) h → Contains (held_in l.scope) h;
   room : Spends (fed_node l.initial.input (g.N.StatementNode.seen l.initial.node)) (room_in l.initial.scope) (fed_node l.input (g.N.StatementNode.seen l.node)) (room_in l.scope);
   calm : g.W.World.faults l.world ≡ g.W.World.faults l.initial.world;
   «open» : (base : List Open) → IsOpen (places_of l.sites) base (held_in l.initial.scope) (g.W.World.live l.initial.world) → IsOpen (places_of l.sites) base (held_in l.scope) (g.W.World.live l.world);

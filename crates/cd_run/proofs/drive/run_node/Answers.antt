@@ -1,4 +1,5 @@
 use Rattle.std.proofs.Common.{◌≤◌, ◌+◌, sym, subst}
+use Rattle.std.specs.Prelude.{Contains}
 use Rattle.cd_scope.specs.State.{held_in, room_in}
 use Rattle.cd_scope.specs.Table.{IsOpen}
 use Rattle.cd_scope.specs.declared.scope.Scope.{Scope}
@@ -19,3 +20,6 @@ returns-clause-open g c = λ base o. subst (λ (x : Scope). IsOpen (places_of c.
 pub returns-clause-told : goal.returns-clause-told
 returns-clause-told g c = λ tells s base placed same size o m k w0 go.
     subst (λ (x : Scope). RunTo s m c.run_to_end-answer.result (held_in x) c.run_to_end-answer.new.left k w0 (outside (g.W.World.log c.run_to_end-answer.new.world) (g.W.World.files c.run_to_end-answer.new.world))) (sym c.abandon.ensures.scope) (c.run_to_end-answer.ensures.told tells s base placed same size o m k w0 go)
+
+pub returns-clause-stays : goal.returns-clause-stays
+returns-clause-stays g c = λ h none has. subst (λ (x : Scope). Contains (held_in x) h) (sym c.abandon.ensures.scope) (c.run_to_end-answer.ensures.stays h none has)

@@ -1,4 +1,4 @@
-use Rattle.std.proofs.Common.{◌≡◌, Bool, true, ℕ, List, get_or, refl, ap, sym, ◌∙◌, subst, arith}
+use Rattle.std.proofs.Common.{◌≡◌, Bool, true, false, ℕ, List, get_or, refl, ap, sym, ◌∙◌, subst, arith}
 use Rattle.std.specs.Prelude.{Contains}
 use Rattle.cd_meaning.specs.Places.{Place}
 use Rattle.cd_world.specs.Live.{Open}
@@ -54,6 +54,7 @@ loop-pause-preserved g c = record {
   sites = c.in-Ok.ensures.sites ∙ c.loop-pause.invariant.sites;
   stands = c.advance.ensures.stands;
   held = told_held c.in-Ok-read_site.told (held_in c.advance.new.scope) (g.N.StatementNode.seen c.advance.new.node) c.in-Ok-read_site.ensures.telling c.in-Ok.ensures.held;
+  stays = λ h none has. c.advance.ensures.stays h (subst (λ (f : ℕ → Bool). f h.site.0 ≡ false) (sym c.loop-pause.invariant.sites) none) (c.loop-pause.invariant.stays h none has);
   room = told_spends (g.N.StatementNode.seen c.args.node.now) (g.N.StatementNode.seen c.advance.new.node) c.in-Ok-read_site.told (room_in c.args.scope.now) (room_in c.advance.new.scope) c.in-Ok-read_site.ensures.telling (spends_after (g.N.StatementNode.seen c.args.node.now) (fed_node c.loop-pause.input (g.N.StatementNode.seen c.loop-pause.node)) (g.N.StatementNode.seen c.advance.new.node) (room_in c.args.scope.now) (room_in c.loop-pause.scope) (room_in c.advance.new.scope) c.loop-pause.invariant.room (spends_at c.in-Ok.pause c.in-Waits.site c.in-Waits.descriptor c.in-Waits.is (fed_node c.loop-pause.input (g.N.StatementNode.seen c.loop-pause.node)) (room_in c.loop-pause.scope) (g.N.StatementNode.seen c.advance.new.node) (room_in c.advance.new.scope) c.in-Ok.ensures.room));
   calm = c.in-Ok-read_site.ensures.cause ∙ c.in-Ok.ensures.cause ∙ c.loop-pause.invariant.calm;
   «open» = λ base o. subst (λ (l : List Open). IsOpen (places_of c.args.sites.now) base (held_in c.advance.new.scope) l) (sym c.read_site.ensures.live) (c.in-Ok.ensures.open base (c.loop-pause.invariant.open base o));
@@ -62,3 +63,12 @@ loop-pause-preserved g c = record {
   others = λ x none. c.in-Ok-read_site.ensures.left.others x (other_site (g.N.StatementNode.seen c.args.node.now).sites c.in-Waits.site.0 x (subst (λ (f : ℕ → Bool). f c.in-Waits.site.0 ≡ true) (c.in-Ok.ensures.sites ∙ c.loop-pause.invariant.sites) (at_read c.in-Ok.pause c.in-Waits.site c.in-Waits.descriptor c.in-Waits.is (places_of c.args.sites.now) (held_in c.advance.new.scope) (g.N.StatementNode.seen c.advance.new.node) c.in-Ok.ensures.paused).own) none) ∙ c.loop-pause.invariant.others x none;
   told = λ tells s base placed same size o m k w0 go. c.in-Ok-read_site.ensures.told tells s base (held_in c.advance.new.scope) (g.N.StatementNode.seen c.advance.new.node) same size (as_open (places_of c.args.sites.now) s.place placed base (g.W.World.live c.advance.new.world) (held_in c.advance.new.scope) (c.in-Ok.ensures.open base (c.loop-pause.invariant.open base o))) (subst (λ (f : ℕ → Place). ReadsAt (f c.in-Waits.site.0) c.in-Waits.descriptor.0 (Contains (held_in c.advance.new.scope) (held_at c.in-Waits.site.0 c.in-Waits.descriptor))) (sym placed) (at_read c.in-Ok.pause c.in-Waits.site c.in-Waits.descriptor c.in-Waits.is (places_of c.args.sites.now) (held_in c.advance.new.scope) (g.N.StatementNode.seen c.advance.new.node) c.in-Ok.ensures.paused).readable) (at_read c.in-Ok.pause c.in-Waits.site c.in-Waits.descriptor c.in-Waits.is (places_of c.args.sites.now) (held_in c.advance.new.scope) (g.N.StatementNode.seen c.advance.new.node) c.in-Ok.ensures.paused).is_at (at_read c.in-Ok.pause c.in-Waits.site c.in-Waits.descriptor c.in-Waits.is (places_of c.args.sites.now) (held_in c.advance.new.scope) (g.N.StatementNode.seen c.advance.new.node) c.in-Ok.ensures.paused).stops m k w0 (going_at c.in-Ok.pause c.in-Waits.site c.in-Waits.descriptor c.in-Waits.is s m (held_in c.advance.new.scope) c.loop-pause.left (g.N.StatementNode.seen c.advance.new.node) k w0 (outside (g.W.World.log c.advance.new.world) (g.W.World.files c.advance.new.world)) (c.in-Ok.ensures.told tells s base placed same (c.loop-pause.invariant.open base o) m c.loop-pause.left k w0 (c.loop-pause.invariant.told tells s base placed same size o m k w0 go)));
 }
+
+pub returns-in-Err-clause-stays : goal.returns-in-Err-clause-stays
+returns-in-Err-clause-stays g c = λ h none has. c.advance.ensures.stays h (subst (λ (f : ℕ → Bool). f h.site.0 ≡ false) (sym c.loop-pause.invariant.sites) none) (c.loop-pause.invariant.stays h none has)
+
+pub returns-in-Done-clause-stays : goal.returns-in-Done-clause-stays
+returns-in-Done-clause-stays g c = λ h none has. c.advance.ensures.stays h (subst (λ (f : ℕ → Bool). f h.site.0 ≡ false) (sym c.loop-pause.invariant.sites) none) (c.loop-pause.invariant.stays h none has)
+
+pub returns-in-Err-read_site-clause-stays : goal.returns-in-Err-read_site-clause-stays
+returns-in-Err-read_site-clause-stays g c = λ h none has. c.advance.ensures.stays h (subst (λ (f : ℕ → Bool). f h.site.0 ≡ false) (sym c.loop-pause.invariant.sites) none) (c.loop-pause.invariant.stays h none has)

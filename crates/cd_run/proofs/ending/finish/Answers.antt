@@ -4,7 +4,9 @@ use Rattle.cd_run.proofs.RunEnd.{joined, rose_joined}
 use Rattle.cd_run.proofs.ending.finish.Goals as goal
 
 pub returns-clause-rose : goal.returns-clause-rose
-returns-clause-rose g c = rose_joined c.args.answer c.finish-finished.result.first_fault c.with_closing.result _ _ c.with_closing.ensures c.finish-finished.ensures.rose
+returns-clause-rose g c =
+    let closed = c.finish-finished.ensures.closes in
+    rose_joined (held_in c.args.scope) c.args.answer c.finish-finished.result.first_fault c.with_closing.result _ _ _ _ closed.0 c.with_closing.ensures closed.1 c.finish-finished.ensures.rose
 
 pub returns-clause-told : goal.returns-clause-told
 returns-clause-told g c = λ tells s m left w0 moved.

@@ -8,7 +8,7 @@ use Rattle.cd_scope.specs.Calls.{held_at}
 use Rattle.cd_run.specs.Going.{outside}
 use Rattle.cd_run.proofs.Steps.{refused}
 use Rattle.cd_run.specs.Statements.{within, left_run}
-use Rattle.cd_run.proofs.FileReads.{give_filed, end_filed}
+use Rattle.cd_run.proofs.FileReads.{give_filed, end_filed, some_left}
 use Rattle.cd_run.proofs.ReadSteps.{given, ended, broke, passed, read_refused, lists_end, lists_some}
 use Rattle.cd_run.proofs.WriteSteps.{count_failed, count_none, count_ok, live_as}
 use Rattle.cd_run.proofs.Slices.{front_back, set_here, set_other, set_length}
@@ -30,6 +30,10 @@ pub returns-then-more-eq1-clause-told : goal.returns-then-more-eq1-clause-told
 returns-then-more-eq1-clause-told g c = λ tells s base t q same size o open_at at stops m k w0 go.
     passed s m k w0 (outside (g.W.World.log c.args.world.now) (g.W.World.files c.args.world.now)) (outside (g.W.World.log c.read.new.self) (g.W.World.files c.read.new.self)) c.args.site c.args.from q at stops open_at c.requires.within c.requires.more go (take c.in-Ok-read.count c.read.new.into) (omega (arith, c.in-Ok-read.ensures.within, c.if-count-eq0.false, c.read.auto.into, c.deref_mut.ensures.len, c.in-Ok.ensures, length-take c.in-Ok-read.count c.read.new.into, c.room.ensures.last c.if-more-eq1.true)) c.if-more-eq1.true
     (c.in-Ok-read.ensures.log tells ∙ ap (λ (l : List Event). g.W.World.log c.args.world.now ++ l) (lists_some _ _ c.in-Ok-read.count c.if-count-eq0.false))
+    (λ ft. some_left go.calls c.args.site.0 c.args.from (take c.in-Ok-read.count c.read.new.into) s t w0.files (g.W.World.files c.args.world.now) (g.W.World.files c.read.new.self) (go.filed ft) c.in-Ok-read.count c.read.new.into refl
+    (omega (arith, c.in-Ok-read.ensures.within, c.if-count-eq0.false, c.read.auto.into, c.deref_mut.ensures.len, c.in-Ok.ensures, length-take c.in-Ok-read.count c.read.new.into)) (s.place c.args.site.0) refl open_at
+    (λ name is. c.in-Ok-read.ensures.file (subst IsTrue same ft) name (live_as s.place base (g.W.World.live c.args.world.now) t o c.args.site.0 c.args.from (Reads name) is (subst (λ (p : Place). ReadsAt p c.args.from.0 (Contains t (held_at c.args.site.0 c.args.from))) is open_at)))
+    (c.in-Ok-read.ensures.input (subst IsTrue same ft)))
 
 pub returns-in-Ok-read-clause-told : goal.returns-in-Ok-read-clause-told
 returns-in-Ok-read-clause-told g c = λ tells s base t q same size o open_at at stops m k w0 go.
