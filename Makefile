@@ -2,7 +2,7 @@
 PREFIX ?= /usr/local
 PROGRAM = crates/conduit/out/conduit
 
-.PHONY: help build example install test cases edits gate-times bench clean
+.PHONY: help build example install test cases edits gate-times random bench clean
 
 help:
 	@echo 'make example            builds the program and runs the first example'
@@ -11,6 +11,7 @@ help:
 	@echo 'make test               proves and tests everything'
 	@echo 'make cases              writes the data of crates/cases again'
 	@echo 'make edits CRATES=..    tries the wrong changes of the code, and right twins, of these crates or of all'
+	@echo 'make random COUNT=..    runs random scripts under several cuts, 200,000 if not given'
 	@echo 'make gate-times         runs the gate from nothing and prints what it costs'
 	@echo 'make bench              measures how many bytes a second words and trees read, and how long scripts are judged'
 	@echo 'make clean              removes what was built'
@@ -39,6 +40,11 @@ gate-times:
 # The wrong changes that the gate tries and all others, which the checks must refuse, and right ones, which they must not.
 edits:
 	tools/edits.sh $(CRATES)
+
+# Not in the gate, for it takes minutes.
+random:
+	cd crates/cases && rt run > /dev/null
+	tools/random_scripts.py $(COUNT)
 
 # Without words the program that measures does nothing, so `rt run` here only proves and links it.
 bench:

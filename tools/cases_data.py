@@ -141,13 +141,6 @@ def word_cases():
 
 # ---- types
 
-# the kinds of refusals, in the order of their numbers from 1
-KINDS = [
-    "KindMismatch", "SeesChunks", "NeedsElements", "DropsRest", "NotInvertible", "NameTwice", "Seal", "BoundTooLarge",
-    "ResultLost", "TooMany", "OpenEnd", "Key",
-]
-
-
 def refusal_line(number, name, statement, part):
     return f"conduit: refused {number} {name} at statement {statement}, part {part}"
 
@@ -177,39 +170,45 @@ def command_case(title, words, files, answers, cut=0, fails=()):
     return lines, answers
 
 
-# The line of each cause that tells no byte, and the front of each that tells one.
+# The line of each cause, with its numbers.
 LINES = {
-    "Success": None,
-    "Usage": "usage: conduit (run SCRIPT | check SCRIPT | show SCRIPT)",
+    "Success": "",
+    "Usage": "usage: conduit (run [--chunk N] [--limit N] SCRIPT | check SCRIPT | show SCRIPT)",
     "ScriptFault": "the script could not be read",
     "ScriptLimit": "the script is longer than 65536 bytes",
+    "ScriptText": "the script is not UTF-8 at byte {}",
+    "Syntax": "syntax error at byte {}",
+    "Limit": "limit of {} passed at byte {}",
+    "Refused": "refused {} {} at statement {}, part {}",
     "NotBuilt": "this form is not built yet",
-    "OutsideFault": "a file could not be opened, read, written or closed",
+    "BadText": "bad UTF-8 at offset {}",
+    "BadHex": "bad base16 at offset {}",
+    "BadBase64": "bad base64 at offset {}",
+    "AcquireFault": "open failed at site {}",
+    "ReadFault": "read failed at site {}",
+    "WriteFault": "write failed at site {}",
+    "CloseFault": "close failed at site {}",
+    "TooLong": "site {} is longer than the limit",
     "NoMemory": "out of memory",
-    "ScriptText": "the script is not UTF-8",
-    "Syntax": "syntax error",
-    "Limit": "limit of {} passed",
 }
 
 
 def line_of(cause):
-    """What standard error gets under a cause, as `Limit { which: Depth, at: 36 }` or `Refused(Refusal { .. })`."""
-    refused = re.fullmatch(r"Refused\(Refusal \{ kind: (\w+), statement: (\d+), part: (\d+) \}\)", cause)
-    if refused:
-        kind, statement, part = refused.groups()
-        return refusal_line(KINDS.index(kind) + 1, kind, statement, part) + "\n"
-    name, which, at = re.fullmatch(r"(\w+)(?: \{ (?:which: (\w+), )?at: (\d+) \})?", cause).groups()
-    if LINES[name] is None:
-        return ""
-    return "conduit: " + LINES[name].format((which or "").lower()) + (f" at byte {at}" if at else "") + "\n"
+    """What standard error gets under a cause, which is a name and its numbers and words."""
+    name, *told = cause
+    return f"conduit: {LINES[name].format(*told)}\n" if LINES[name] else ""
+
+
+def outcome_lines(case):
+    line = line_of(case["cause"]).rstrip("\n")
+    return [f"= status {case['status']}, said {case.get('said', 'Whole')}", f"= cause {line}"]
 
 
 def answers_of(case):
     calls = "".join(f" {call}," for call in case["calls"])
     errors = case.get("errors", line_of(case["cause"]))
     return [
-        f"= {case['cause']}, status {case['status']}, said {case.get('said', 'Whole')}",
-        f"= failed {calls.count(' failed,')}", f"= calls{calls}",
+        *outcome_lines(case), f"= failed {calls.count(' failed,')}", f"= calls{calls}",
         f"= out {escaped(list(case['out'].encode()))}", f"= errors {escaped(list(errors.encode()))}",
     ]
 
@@ -220,7 +219,7 @@ def example_cases():
         canonical = shown.read_text(encoding="utf-8")
         script = (ROOT / "examples" / shown.name).read_text(encoding="utf-8")
         for text, title in ((script, f"show examples/{shown.name}"), (canonical, f"show examples/shown/{shown.name}")):
-            case = {"cause": "Success", "status": 0, "fails": [], "calls": ["open s", "end", "close"], "out": canonical}
+            case = {"cause": ["Success"], "status": 0, "fails": [], "calls": ["open s", "end", "close"], "out": canonical}
             yield command_case(title, ["show", "s"], {"s": text, "<stdout>": ""}, answers_of(case), 7)
 
 
@@ -232,12 +231,132 @@ def command_cases():
     yield from example_cases()
 
 
+# ---- runs
+
+# What is built of the words, operators and statements.
+BUILT = {
+    "passE", "takeE", "takeWhileE", "filterE", "mapE", "repeatE", "dropE", "dropWhileE", "headE", "peekE", "lastE",
+    "lengthE", "sumE", "allE", "anyE", "nullE", "collectE", "sinkNull", "sourceFile", "stdin", "sinkFile", "stdout",
+    "mark", "chain |", "sequence", "run", "hold", "release",
+}
+
+
+def run_case(title, words, before, fails, cause, status, journal, after, cut):
+    """A run, with what is there before and, where outputs are shown, what is there after it; None is no file."""
+    lines, _ = command_case(title, words, before, [], cut, fails)
+    where = next(number for number, line in enumerate(lines) if line.startswith("file "))
+    lines[where:where] = [f"shows {name}" for name in after]
+    shown = [f"= no {name}" if held is None else f"= {name} holds {escaped(held)}" for name, held in after.items()]
+    answers = outcome_lines({"cause": cause, "status": status})
+    return lines, answers + shown + [f"= {line}" for line in journal]
+
+
+def held(text):
+    return text["bytes"] if "bytes" in text else list(text["text"].encode())
+
+
+def outside_runs():
+    for case in rows("runs.jsonl"):
+        if not set(case["uses"]) <= BUILT:
+            continue
+        fails = [fail for fail in case["fails"] if f'"{fail[1]}"' in case["script"] or fail[1].startswith("<")]
+        before = {"s": case["script"]}
+        before |= {name: {"bytes": held(text)} for name, text in case["files"].items()}
+        before |= {"<stdin>": {"bytes": held(case["stdin"])}, "<stdout>": ""}
+        before |= {name: "" for _, name, _ in fails if name not in before}
+        after = {}
+        if case["status"] == 0:
+            after = {name: held(text) for name, text in case["files"].items()}
+            after |= {name: held(text) for name, text in case["written"].items()} | {name: None for name in case["gone"]}
+            after["<stdout>"] = held(case["out"])
+        # which read or write is the k-th depends on the cuts
+        counted = any(sort in ("read", "write") for sort, _, _ in fails)
+        for cut in (0,) if counted else (0, 1, 2, 3):
+            yield run_case(
+                f"run {case['seed']}" + (f", cut by {cut}" if cut else ""), case["words"], before, fails, case["cause"],
+                case["status"], case["journal"], after, cut)
+
+
+def is_built(tree):
+    """Whether a pipe is built."""
+    kind, *inner = tree
+    if kind == "Word":
+        word = inner[0]
+        return word[0] in ("Elem", "Sink") or word[0] == "Source" and (word[1] == "Stdin" or word[1][0] == "SourceFile")
+    if kind == "Chain":
+        return inner[0] == "Plain" and all(map(is_built, inner[1]))
+    if kind == "Sequence":
+        return all(map(is_built, inner[0]))
+    return kind == "Mark" and is_built(inner[1])
+
+
+def sites_of(tree):
+    """The sites of a pipe in their order, each with its use and its name."""
+    kind, *inner = tree
+    if kind == "Word":
+        word = inner[0]
+        if word[0] == "Source":
+            return [("reads", "<stdin>" if word[1] == "Stdin" else word[1][1])]
+        if word[0] == "Sink":
+            return [("writes", "<stdout>" if word[1] == "Stdout" else word[1][1])]
+        return []
+    if kind == "Mark":
+        return [("marks", inner[0]), *sites_of(inner[1])]
+    return [site for part in inner[-1] for site in sites_of(part)]
+
+
+def script_run(case, run):
+    """What a run of a script is over files that hold just what is seen, or None where no files do."""
+    statements = [("marks", one[2]) if one[0] == "Hold" else one for one in case["tree"]]
+    sites = [(None, "<stdout>")]
+    for one in statements:
+        sites += sites_of(one[1]) if one[0] == "Run" else [one] if one[0] == "marks" else []
+    before, fails = {"s": case["script"], "<stdin>": "", "<stdout>": ""}, []
+    for number, seen in run["seen"].items():
+        name = sites[int(number)][1]
+        if seen["mark"] == "More" or before.get(name, "") not in ("", {"bytes": seen["bytes"]}):
+            return None
+        before[name] = {"bytes": seen["bytes"]}
+        if seen["mark"] == "Bad":
+            fails.append(["read", name, 2 if seen["bytes"] else 1])
+    if run["end"] != "done" and run["end"][1][0] != "ReadBad":
+        return None
+    after = {name: [] for use, name in sites if use == "writes"} | {"<stdout>": []}
+    journal, standing = [], []
+    for kind, site, *told in run["effects"]:
+        if kind == "put":
+            after[sites[site][1]] += told[0]
+        elif kind == "open":
+            journal.append(f"open {site}")
+            standing.append(site)
+        else:
+            journal.append(f"close {site} early")
+            standing.remove(site)
+    journal += [f"close {site} end" for site in reversed(standing)]
+    opened = {int(line.split()[1]) for line in journal}
+    after = {name: held for name, held in after.items() if name == "<stdout>" or any(sites[site][1] == name for site in opened)}
+    after |= {name: None for use, name in sites if use == "marks"}
+    if run["end"] == "done":
+        return before, fails, ["Success"], 0, journal, after
+    return before, fails, ["ReadFault", run["end"][1][1]], 7, journal, {}
+
+
+def script_runs():
+    for case in rows("scripts.jsonl"):
+        if not all(one[0] in ("Hold", "Release") or one[0] == "Run" and is_built(one[1]) for one in case["tree"]):
+            continue
+        for number, run in enumerate(case["runs"]):
+            found = script_run(case, run)
+            if found:
+                yield run_case(f"script {case['seed']}, run {number + 1}", ["run", "s"], *found, 0)
+
+
 # ---- the files
 
 def files():
     """Each file and what it holds."""
     told = []
-    for name, cases in (("texts", text_cases()), ("words", word_cases()), ("types", type_cases()), ("commands", command_cases())):
+    for name, cases in (("texts", text_cases()), ("words", word_cases()), ("types", type_cases()), ("commands", command_cases()), ("runs", [*outside_runs(), *script_runs()])):
         cases = list(cases)
         yield PROGRAM / "data" / name, "".join("\n".join(lines) + "\n\n" for lines, _ in cases)[:-1]
         told += ["\n".join(lines + answers) + "\n\n" for lines, answers in cases]

@@ -94,10 +94,11 @@ def waits(done):
     return False
 
 
-def write_pieces(path, told, wanted, out, problems):
-    """Writes a fifo piece by piece: the next one once the last was read and, of a source, what is due stands in `out`."""
+def write_pieces(name, opened, told, wanted, out, problems):
+    """Writes a fifo or a pipe piece by piece: the next one once the last was read and, of a source, what is due stands in
+    `out`."""
     text = content(told["fifo"])
-    descriptor = os.open(path, os.O_WRONLY)
+    descriptor = opened()
     try:
         for start in range(0, len(text), told["pieces"]):
             end = min(start + told["pieces"], len(text))
@@ -106,7 +107,7 @@ def write_pieces(path, told, wanted, out, problems):
             os.write(descriptor, text[start:end])
             due = wanted[:end] if "source" in told else b""
             if not waits(lambda: unread(descriptor) == 0) or not waits(lambda: bytes(out[: len(due)]) == due):
-                problems.append(f"after {end} bytes of {path.name} standard output has {bytes(out)!r}")
+                problems.append(f"after {end} bytes of {name} standard output has {bytes(out)!r}")
                 return
     except BrokenPipeError:
         pass
@@ -153,14 +154,18 @@ def run(program, case, folder):
     wanted = b"" if stdout else content(case["stdout"])
     for name, told in case["files"].items():
         make_file(folder / name, told)
-    threads = [
-        threading.Thread(target=write_pieces, args=(folder / name, told, wanted, out, problems), daemon=True)
+    pieces = [
+        (name, lambda path=folder / name: os.open(path, os.O_WRONLY), told)
         for name, told in case["files"].items() if isinstance(told, dict) and "fifo" in told
     ]
     reading, writing = os.pipe()
     sink = os.open("/dev/full", os.O_WRONLY) if "full" in stdout else writing
     given = case.get("stdin", "")
     source = subprocess.DEVNULL if given == "closed" else subprocess.PIPE
+    if isinstance(given, dict):
+        source, feed = os.pipe()
+        pieces.append(("standard input", lambda: feed, given))
+    threads = [threading.Thread(target=write_pieces, args=(*one, wanted, out, problems), daemon=True) for one in pieces]
     child = subprocess.Popen(
         [os.fsencode(program), *map(word, case["words"])], cwd=folder, stdin=source, stdout=sink, stderr=subprocess.PIPE,
         preexec_fn=prepare(case), env={"PATH": "/usr/bin:/bin", "LANG": "C.UTF-8"},
@@ -168,11 +173,13 @@ def run(program, case, folder):
     os.close(writing)
     if sink != writing:
         os.close(sink)
+    if isinstance(given, dict):
+        os.close(source)
     reader = threading.Thread(target=read_all, args=(reading, out, stdout.get("reader")), daemon=True)
     for thread in [reader, *threads]:
         thread.start()
     try:
-        _, errors = child.communicate(None if given == "closed" else content(given), timeout=SECONDS)
+        _, errors = child.communicate(content(given) if source == subprocess.PIPE else None, timeout=SECONDS)
     except subprocess.TimeoutExpired:
         child.kill()
         problems.append(f"it had not ended after {SECONDS} seconds")
@@ -244,6 +251,22 @@ def descriptors(program, folder):
     return problems
 
 
+# ---- a file that changes
+
+def truncated(program, folder):
+    """What is wrong with a run whose source is cut off while it is read. Any answer will do, and nothing stays behind."""
+    (folder / "s").write_text('run mark "busy" { sourceFile "a" } | stdout;\n')
+    (folder / "a").write_bytes(b"conduit, " * 1000000)
+    started = subprocess.Popen([program, "run", "s"], cwd=folder, stdout=subprocess.PIPE, stderr=subprocess.DEVNULL)
+    started.stdout.read(100000)
+    os.truncate(folder / "a", 200000)
+    started.communicate(timeout=SECONDS)
+    problems = [] if started.returncode in (0, 7) else [f"status {started.returncode}"]
+    if (folder / "busy").exists():
+        problems.append("the mark is left")
+    return problems
+
+
 def cases(names):
     """Each case's name and check."""
     for path in sorted((HERE / "cases").glob("*.json")):
@@ -252,6 +275,8 @@ def cases(names):
             yield path.stem, lambda program, folder, case=case: compare(program, case, folder)
     if not names or "descriptors" in names:
         yield "descriptors", descriptors
+    if not names or "truncated" in names:
+        yield "truncated", truncated
 
 
 def main():

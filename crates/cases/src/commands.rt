@@ -1,11 +1,9 @@
-// Whole runs of the command over a world in memory.
-//
-// A case has the words, a line each, by how many bytes each read and write is cut, and then the files, each with what
-// it holds and which of its calls fail.
-use case_notation::{CaseError, field, number, push_text};
+// Whole runs of the command over a world in memory: how it ended, and each call that it made.
+use crate::given::{cut_of, words_of, world_of};
+use case_notation::CaseError;
 use cd_cli::{Outcome, conduit_main};
-use cd_elem::{Items, Literal, NumberList};
-use cd_world::{Event, Fail, FailList, MemoryFile, MemoryFiles, MemoryWorld};
+use cd_report::cause_text;
+use cd_world::{Event, MemoryWorld};
 use percent_encoding::{AsciiSet, CONTROLS, ascii_set, percent_encode};
 use std::alloc::Global;
 
@@ -15,134 +13,8 @@ const STDOUT: &str = "<stdout>";
 /// The name of standard error.
 const STDERR: &str = "<stderr>";
 
-/// As many reads and writes of a name are cut as the cases need.
-const CUT_CALLS: usize = 64;
-
 /// What is written as `%` and two digits.
-const ESCAPED: AsciiSet = ascii_set!(CONTROLS.add(b'%'));
-
-/// The call of a sort that fails, by its number among those of a name.
-fn fail_of(sort: &str, count: u32) -> Result<Fail, CaseError> {
-    if sort == "open" {
-        Ok(Fail::Opening(count))
-    } else if sort == "read" {
-        Ok(Fail::Reading(count))
-    } else if sort == "write" {
-        Ok(Fail::Writing(count))
-    } else if sort == "close" {
-        Ok(Fail::Closing(count))
-    } else {
-        Err(CaseError::Malformed("a call that fails"))
-    }
-}
-
-/// Cuts of this size, and none for 0.
-fn cuts_of(alloc: Global, size: u32) -> Result<NumberList, CaseError> {
-    if size == 0 {
-        return Ok(Items::new(alloc));
-    }
-    Ok(Items::from_slice(alloc, &[size; CUT_CALLS])?)
-}
-
-fn push_bytes(bytes: &mut Vec<u8>, lines: &str) -> Result<(), CaseError> {
-    for line in lines.lines() {
-        push_line(bytes, line)?;
-    }
-    Ok(())
-}
-
-/// Adds what a line of a file stands for. A call that is to fail stands for no bytes.
-fn push_line(bytes: &mut Vec<u8>, line: &str) -> Result<(), CaseError> {
-    let (key, value) = field(line);
-    if key == "fail" {
-        return Ok(());
-    }
-    push_text(bytes, key, value)
-}
-
-/// What a file holds.
-fn bytes_of(alloc: Global, lines: &str) -> Result<Vec<u8>, CaseError> {
-    let mut bytes = Vec::new(alloc);
-    push_bytes(&mut bytes, lines).and(Ok(bytes))
-}
-
-fn push_fails(fails: &mut FailList, lines: &str) -> Result<(), CaseError> {
-    for line in lines.lines() {
-        let (key, value) = field(line);
-        if key == "fail" {
-            let (sort, count) = field(value);
-            let fail = fail_of(sort, number(count)?)?;
-            fails.push(fail).map_err(|_| CaseError::NoMemory)?;
-        }
-    }
-    Ok(())
-}
-
-/// Which calls of a file fail.
-fn fails_of(alloc: Global, lines: &str) -> Result<FailList, CaseError> {
-    let mut fails = Items::new(alloc);
-    push_fails(&mut fails, lines).and(Ok(fails))
-}
-
-/// The file of some lines, the first of which is its name.
-fn file_of(alloc: Global, lines: &str, cut: u32) -> Result<MemoryFile, CaseError> {
-    let (name, lines) = lines.split_once('\n').unwrap_or((lines, ""));
-    Ok(MemoryFile {
-        name: Literal::new(alloc, name)?,
-        bytes: Items::from_vec(bytes_of(alloc, lines)?),
-        read_cuts: cuts_of(alloc, cut)?,
-        write_cuts: cuts_of(alloc, cut)?,
-        fails: fails_of(alloc, lines)?,
-    })
-}
-
-fn push_files(
-    alloc: Global,
-    files: &mut MemoryFiles,
-    case: &str,
-    cut: u32,
-) -> Result<(), CaseError> {
-    for lines in case.split("\nfile ").skip(1) {
-        let file = file_of(alloc, lines, cut)?;
-        files.push(file).map_err(|_| CaseError::NoMemory)?;
-    }
-    Ok(())
-}
-
-fn world_of(alloc: Global, case: &str, cut: u32) -> Result<MemoryWorld, CaseError> {
-    let mut files = Items::new(alloc);
-    let files = push_files(alloc, &mut files, case, cut).and(Ok::<MemoryFiles, CaseError>(files))?;
-    Ok(MemoryWorld::new(alloc, files)?)
-}
-
-fn push_words(alloc: Global, words: &mut Vec<String>, lines: &str) -> Result<(), CaseError> {
-    for line in lines.lines() {
-        let (key, value) = field(line);
-        if key == "word" {
-            words
-                .push(String::from_str(alloc, value)?)
-                .map_err(|_| CaseError::NoMemory)?;
-        }
-    }
-    Ok(())
-}
-
-/// The words of these lines.
-fn words_of(alloc: Global, lines: &str) -> Result<Vec<String>, CaseError> {
-    let mut words = Vec::new(alloc);
-    push_words(alloc, &mut words, lines).and(Ok(words))
-}
-
-/// The size of the cuts that these lines name, 0 where they name none.
-fn cut_of(lines: &str) -> Result<u32, CaseError> {
-    for line in lines.lines() {
-        let (key, value) = field(line);
-        if key == "cut" {
-            return number(value);
-        }
-    }
-    Ok(0)
-}
+pub const ESCAPED: AsciiSet = ascii_set!(CONTROLS.add(b'%'));
 
 /// What an event is told as, but for the name of what was opened; of reads and writes of some bytes nothing is told.
 fn event_text(event: &Event) -> &'static str {
@@ -186,12 +58,15 @@ fn write_world(lines: &mut String, world: &MemoryWorld) -> Result<(), CaseError>
     Ok(())
 }
 
-fn write_outcome(lines: &mut String, outcome: Outcome) -> Result<(), CaseError> {
-    Ok(writeln!(
+/// Adds the status, how much of the cause's line was told, and that line.
+pub fn write_outcome(lines: &mut String, alloc: Global, outcome: Outcome) -> Result<(), CaseError> {
+    writeln!(
         lines,
-        "= {:?}, status {}, said {:?}",
-        outcome.cause, outcome.status, outcome.said
-    )?)
+        "= status {}, said {:?}",
+        outcome.status, outcome.said
+    )?;
+    let line = cause_text(alloc, outcome.cause)?;
+    Ok(writeln!(lines, "= cause {}", line.as_str().trim_end())?)
 }
 
 /// Runs the command with these words, and adds the answer.
@@ -204,7 +79,7 @@ fn write_run(
 ) -> Result<(), CaseError> {
     let mut world = world_of(alloc, case, cut)?;
     let outcome = conduit_main(alloc, words, &mut world);
-    let written = write_outcome(lines, outcome).and(write_world(lines, &world));
+    let written = write_outcome(lines, alloc, outcome).and(write_world(lines, &world));
     drop(world);
     written
 }

@@ -1,14 +1,17 @@
-//! Runs the cases of its data, and prints each with the answers that it got.
+//! Runs the cases of its data, or with the word `runs` those of the file `runs` where it stands, and prints each with the
+//! answers that it got.
 #![tactic(auto)]
 
 mod commands;
+mod given;
+mod runs;
 mod texts;
 
 use anyhow::Context;
 use case_notation::CaseError;
 use std::alloc::Global;
-use std::fs;
 use std::rt::Files;
+use std::{env, fs};
 
 /// The tables of cases, each a file of the data.
 #[derive(Clone, Copy)]
@@ -17,6 +20,7 @@ enum Table {
     Words,
     Types,
     Commands,
+    Runs,
 }
 
 impl Table {
@@ -26,6 +30,7 @@ impl Table {
             Table::Words => "words",
             Table::Types => "types",
             Table::Commands => "commands",
+            Table::Runs => "runs",
         }
     }
 
@@ -36,6 +41,7 @@ impl Table {
             Table::Words => case_words::answer(alloc, case, lines),
             Table::Types => case_types::answer(alloc, case, lines),
             Table::Commands => commands::answer(alloc, case, lines),
+            Table::Runs => runs::answer(alloc, case, lines),
         }
     }
 }
@@ -57,9 +63,17 @@ fn print_table<R: Print + Files + Alloc<A = Global>>(rt: &R, table: Table) -> an
     Ok(())
 }
 
+fn print_all<R: Print + Files + Alloc<A = Global>>(rt: &R) -> anyhow::Result<()> {
+    print_table(rt, Table::Texts)?;
+    print_table(rt, Table::Words)?;
+    print_table(rt, Table::Types)?;
+    print_table(rt, Table::Commands)?;
+    print_table(rt, Table::Runs)
+}
+
 fn main(rt: HostRuntime) -> anyhow::Result<()> {
-    print_table(&rt, Table::Texts)?;
-    print_table(&rt, Table::Words)?;
-    print_table(&rt, Table::Types)?;
-    print_table(&rt, Table::Commands)
+    match env::args(&rt)?.nth(1) {
+        Some(word) if word.as_str() == "runs" => print_table(&rt, Table::Runs),
+        _ => print_all(&rt),
+    }
 }

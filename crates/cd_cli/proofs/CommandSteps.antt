@@ -1,9 +1,8 @@
 -- What the command does, from what its steps do.
-use Rattle.std.proofs.Common.{◌≡◌, ◌≢◌, ◌⊎◌, inl, inr, ℕ, ◌≤◌, ◌<◌, Bool, true, false, nat_le, if◌then◌else◌, List, [], ◌∷◌, ◌++◌, length, length-take, take, Result, Ok, Err, refl, sym, ◌∙◌, ap, ap₂, subst, arith, append_assoc, get_or, codes}
-use Rattle.std.specs.Prelude.{OnOk}
+use Rattle.std.proofs.Common.{◌≡◌, ◌≢◌, ◌⊎◌, inl, inr, ℕ, ◌≤◌, ◌<◌, Bool, List, [], ◌∷◌, ◌++◌, length, length-take, take, Result, Ok, Err, refl, sym, ◌∙◌, ap, subst, arith, append_assoc, Option, Some, None}
+use Rattle.std.specs.Prelude.{IsTrue}
 use Rattle.std.proofs.lemmas.List.{append-nil, take_all}
 use Rattle.std.proofs.lemmas.Bool.{cases_lt}
-use Rattle.std.proofs.lemmas.Bool.Decides.{nat_tests}
 use Rattle.cd_grammar.specs.Limits.{text_limit}
 use Rattle.cd_elem.specs.declared.script.Stmt.{Stmt}
 use Rattle.cd_world.specs.declared.event.Event.{Event}
@@ -11,89 +10,25 @@ use Rattle.cd_world.specs.declared.world.WorldError.{WorldError}
 use Rattle.cd_world.specs.declared.world.WorldError.TheVariants.{Failed, NoMemory}
 use Rattle.cd_world.specs.Causes.{Rose}
 use Rattle.cd_world.specs.Files.{Files}
-use Rattle.cd_meaning.specs.Stream.{Value, Done}
-use Rattle.cd_meaning.specs.RunShapes.{Mark, AtEnd}
-use Rattle.cd_meaning.specs.TakeForm.{front_ending, ending_of, take_script}
-use Rattle.cd_meaning.proofs.TakeForm.{form_ending, form_puts, whole_puts, whole_ends}
 use Rattle.cd_types.specs.declared.refusal.Refusal.{Refusal}
 use Rattle.cd_types.specs.Typing.{HasType, IsRefused as IsFirst}
 use Rattle.cd_types.proofs.Verdicts.{never_both_so}
 use Rattle.cd_report.specs.CheckText.{check_text}
 use Rattle.cd_report.specs.declared.cause.Cause.{Cause}
-use Rattle.cd_report.specs.declared.cause.Cause.TheVariants.{Success, Refused, NotBuilt, OutsideFault, NoMemory as WithoutMemory}
-use Rattle.cd_cli.specs.Cause.{cause_of, script_cause, words_cause, HasOrigin}
-use Rattle.cd_cli.specs.Form.{NoForm}
+use Rattle.cd_report.specs.declared.cause.Cause.TheVariants.{Success, Refused, NoMemory as WithoutMemory}
+use Rattle.cd_cli.specs.Cause.{HasOrigin, output_fault, script_cause, text_cause, words_cause}
 use Rattle.cd_cli.specs.Judge.{read_limit, IsScriptOf, HasTree, HasNone, IsRefused, too_long, no_utf8, syntax, limit}
 use Rattle.cd_cli.specs.declared.arguments.Command.{Command}
 use Rattle.cd_cli.specs.declared.arguments.Command.TheVariants.{Run, Check, Show}
 use Rattle.cd_cli.specs.declared.arguments.WordsRefusal.{WordsRefusal}
 use Rattle.cd_cli.specs.declared.arguments.WordsRefusal.TheVariants as words_refusal
-use Rattle.cd_cli.specs.Arguments.{NamesScript, IsCommand, AreArguments, script_of}
-use Rattle.cd_cli.specs.Command.{IsRunCause, IsUnread, Runs, RunsTree, no_form, of_form, Does, Judges, no_memory, no_script, of_tree, Logs, FindsTypes, untyped, refused, has_type, ReadsAndJudges, unread, read, Calls, other_words, of_command, Called, Puts, SendsTree, SendsText, SendsFor, Sends, SendsScript, AnswersCommand, Sent, IsTaken}
+use Rattle.cd_cli.specs.Arguments.{IsCommand, AreArguments, command_of, script_of}
+use Rattle.cd_cli.specs.Command.{IsTextCause, IsUnread, Does, Judges, no_memory, no_script, of_tree, Logs, FindsTypes, untyped, refused, has_type, ReadsAndJudges, unread, read, Calls, other_words, of_command, Called, SendsText, SendsFor, Sends, SendsScript, AnswersCommand, Sent, IsNoRun, RunNothing, HasTaken, IsTaken, IsTakenTree, EndsUnlessFailed}
 use Rattle.cd_cli.specs.Script.{ReadsWhole, TriesRead, ReadsFront, LogsRead}
-use Rattle.cd_cli.specs.Seen.{seen_of}
-use Rattle.cd_cli.specs.Take.{Takes, LogsTake}
-use Rattle.cd_cli.proofs.RestSteps.{keeps_on, contents_kept}
-use Rattle.cd_cli.proofs.FormTypes.{form_has_type}
+use Rattle.cd_cli.specs.Streams.{KeepsRest}
+use Rattle.cd_cli.proofs.RestSteps.{keeps_on, contents_kept, sources_kept}
+use Rattle.cd_cli.proofs.RunSteps.{SameSources, runs_over}
 use Rattle.cd_cli.proofs.WriteSteps.{IsUnfailed, no_memory_unfailed}
-
--- ---- the meaning of a run
-
--- it is done once it has enough
-front_done : (bytes : List ℕ) (mark : Mark) (n : ℕ) → (n ≤ length bytes) ⊎ (mark ≡ AtEnd) → front_ending bytes mark n ≡ Done Value.Unit
-front_done bytes mark n (inl many) =
-    let fits : nat_le n (length bytes) ≡ true = grind (arith, nat_tests) in
-    ap (λ (b : Bool). if b then Done Value.Unit else ending_of mark) fits
-front_done bytes mark n (inr ended) =
-    ap (λ (m : Mark). front_ending bytes m n) ended ∙ either (nat_le n (length bytes))
-  where
-    either : (b : Bool) → (if b then Done Value.Unit else ending_of AtEnd) ≡ Done Value.Unit
-    either true = refl
-    either false = refl
-
-module _ (name : List ℕ) (count : ℕ) where
-  -- what was called
-  pub runs_of : {T : Type 0} (result : Result T WorldError) (cause : Cause) (l l' : List Event) (takes : LogsTake name count result l l') → ((P : Type 0) → OnOk result P → cause ≡ Success → P)
-      → (cause ≢ OutsideFault → IsUnfailed result) → Runs name count cause takes.part
-  runs_of result cause l l' takes on_success unfailed = record {
-    shape = takes.shape;
-    behind = takes.behind;
-    puts = form_puts name (seen_of takes.part) count ∙ takes.front;
-    whole = on_success _ takes.whole;
-    done = λ success. form_ending name (seen_of takes.part) count ∙ front_done _ _ count (on_success _ takes.enough success);
-    calm = λ other. takes.calm (unfailed other);
-  }
-
-  -- what was put
-  pub puts_of_file : {T : Type 0} (result : Result T WorldError) (cause : Cause) (f f' : Files) (takes : Takes name count result f f') → ((P : Type 0) → OnOk result P → cause ≡ Success → P) → Puts f.contents name count cause takes.sent
-  puts_of_file result cause f f' takes on_success = record {
-    behind = takes.behind;
-    puts = λ input limit fits. whole_puts f.contents input limit name count fits ∙ takes.front;
-    whole = on_success _ takes.whole;
-    done = λ success input limit fits. whole_ends f.contents input limit name count fits;
-  }
-
--- ---- a tree
-
-module _ (tree : List Stmt) where
-  pub unfit_logs : (l : List Event) → NoForm tree → Logs (RunsTree tree) NotBuilt l l
-  unfit_logs l none = record { calls = []; log = sym (append-nil l); does = no_form none refl }
-
-  pub unfit_sends : (f : Files) → NoForm tree → Sent (SendsTree f.contents tree NotBuilt) f f
-  unfit_sends f none = record { sent = []; output = sym (append-nil f.output); rest = refl; answer = no_form none refl }
-
-  module _ {T : Type 0} (name : List ℕ) (count : ℕ) (is : tree ≡ take_script name count) (result : Result T WorldError) (cause : Cause) (ran : IsRunCause cause)
-      (on_success : (P : Type 0) → OnOk result P → cause ≡ Success → P) where
-    pub fit_logs : (l l' : List Event) → (cause ≢ OutsideFault → IsUnfailed result) → LogsTake name count result l l' → Logs (RunsTree tree) cause l l'
-    fit_logs l l' unfailed takes = record { calls = takes.part; log = takes.log; does = of_form name count takes.part is ran (runs_of name count result cause l l' takes on_success unfailed) }
-
-    pub fit_sends : (f f' : Files) → Takes name count result f f' → Sent (SendsTree f.contents tree cause) f f'
-    fit_sends f f' takes = record {
-      sent = takes.sent;
-      output = takes.output;
-      rest = takes.rest;
-      answer = of_form name count takes.sent is ran (puts_of_file name count result cause f f' takes on_success);
-    }
 
 -- ---- the types of a tree
 
@@ -117,17 +52,18 @@ module _ (tree : List Stmt) where
     pub untyped_sends : (cause : Cause) (f : Files) → (cause ≡ WithoutMemory) ⊎ ((refusal : Refusal) × IsFirst tree refusal × (cause ≡ Refused refusal)) → Sent (FindsTypes SendsSo tree cause) f f
     untyped_sends cause f none = record { sent = []; output = sym (append-nil f.output); rest = refl; answer = finds_none SendsSo tree cause none }
 
--- a refused call is the end of a run, and no success
-pub run_cause : (e : WorldError) → IsRunCause (cause_of e)
-run_cause Failed = inr (inl refl)
-run_cause NoMemory = inr (inr refl)
+-- ---- a text that is written
 
-pub not_success : (e : WorldError) → cause_of e ≡ Success → ⊥
+-- a refused write is the cause, and no success
+pub text_ran : (e : WorldError) → IsTextCause (text_cause e)
+text_ran Failed = inr (inl refl)
+text_ran NoMemory = inr (inr refl)
+
+pub not_success : (e : WorldError) → text_cause e ≡ Success → ⊥
 not_success Failed h = absurd cc
 not_success NoMemory h = absurd cc
 
--- a failed call is the cause
-pub no_other : (T : Type 0) (e : WorldError) → cause_of e ≢ OutsideFault → IsUnfailed {T = T} (Err e)
+pub no_other : (T : Type 0) (e : WorldError) → text_cause e ≢ output_fault → IsUnfailed {T = T} (Err e)
 no_other T Failed other = absurd (other refl)
 no_other T NoMemory other = no_memory_unfailed T
 
@@ -179,29 +115,49 @@ judged_whole SendsSo text cause sent sends = by_length (cases_lt text_limit (len
   by_length (inl long) s = long_sends sent long s
   by_length (inr short) s = subst (λ (t : List ℕ). Sends SendsSo t cause sent) (take_all read_limit text (omega (arith, short))) s
 
+-- ---- over files that hold the same
+
+finds_over : {X : Type 0} (D E : Cause → List X → Type 0) (tree : List Stmt) (cause : Cause) → ((xs : List X) → D cause xs → E cause xs) → (xs : List X) → FindsTypes D tree cause xs → FindsTypes E tree cause xs
+finds_over D E tree cause over _ (untyped is) = untyped is
+finds_over D E tree cause over _ (refused refusal first is) = refused refusal first is
+finds_over D E tree cause over _ (has_type xs typed does) = has_type xs typed (over xs does)
+
+judges_over : (D E : List Stmt → Cause → List Event → Type 0) (text : List ℕ) (cause : Cause) → ((tree : List Stmt) (calls : List Event) → D tree cause calls → E tree cause calls) → (calls : List Event)
+    → Judges D text cause calls → Judges E text cause calls
+judges_over D E text cause over _ (no_memory is) = no_memory is
+judges_over D E text cause over _ (no_script none) = no_script none
+judges_over D E text cause over _ (of_tree tree calls has does) = of_tree tree calls has (over tree calls does)
+
+module _ (tells : Bool) (f f' : Files) (same : IsTrue tells → SameSources f f') where
+  does_over : (command : Command) (tree : List Stmt) (cause : Cause) (calls : List Event) → Does command tells f' tree cause calls → Does command tells f tree cause calls
+  does_over (Run script options) tree cause calls does = finds_over _ _ tree cause (λ xs. runs_over tells f f' same options tree cause xs) calls does
+  does_over (Check script) tree cause calls does = does
+  does_over (Show script) tree cause calls does = does
+
 -- ---- a script
 
 -- which is that of a command
 module _ (command : Command) (name : List ℕ) (named : name ≡ script_of command) where
   module _ {T : Type 0} (items : T → List ℕ) (t : T) (text : List ℕ) (cause : Cause) (is : text ≡ items t) where
-    pub script_sends : (f f1 f2 : Files) → ReadsFront {E = WorldError} name read_limit items (Ok t) f f1 → Sent (Sends (SendsFor command f1.contents) text cause) f1 f2
-        → Sent (SendsScript (SendsFor command f.contents) f.contents (script_of command) cause) f f2
+    pub script_sends : (f f1 f2 : Files) → ReadsFront {E = WorldError} name read_limit items (Ok t) f f1 → Sent (Sends (SendsFor command) text cause) f1 f2
+        → Sent (SendsScript (SendsFor command) f.contents (script_of command) cause) f f2
     script_sends f f1 f2 reads sends = record {
       sent = sends.sent;
       output = sends.output ∙ ap (λ (o : List ℕ). o ++ sends.sent) reads.output;
       rest = keeps_on f f1 f2 reads.rest sends.rest;
-      answer = read sends.sent (judged_whole (SendsFor command f.contents) (f.contents (script_of command)) cause sends.sent
-          (subst (λ (b : List ℕ). Sends (SendsFor command f.contents) b cause sends.sent) (is ∙ sym reads.front ∙ ap (λ (n : List ℕ). take read_limit (f.contents n)) named)
-          (subst (λ (c : List ℕ → List ℕ). Sends (SendsFor command c) text cause sends.sent) (contents_kept f f1 reads.rest) sends.answer)));
+      answer = read sends.sent (judged_whole (SendsFor command) (f.contents (script_of command)) cause sends.sent
+          (subst (λ (b : List ℕ). Sends (SendsFor command) b cause sends.sent) (is ∙ sym reads.front ∙ ap (λ (n : List ℕ). take read_limit (f.contents n)) named)
+          sends.answer));
     }
 
-    pub script_logs : (l l1 l2 : List Event) → LogsRead name read_limit items (Ok t) l l1 → Logs (Judges (Does command) text) cause l1 l2
-        → Called (ReadsAndJudges (Does command) (script_of command) cause) l l2
-    script_logs l l1 l2 reads judged = record {
+    pub script_logs : (tells : Bool) (f f1 : Files) (l l1 l2 : List Event) → (IsTrue tells → ReadsFront {E = WorldError} name read_limit items (Ok t) f f1) → LogsRead name read_limit items (Ok t) l l1
+        → Logs (Judges (Does command tells f1) text) cause l1 l2 → Called (ReadsAndJudges (Does command tells f) (script_of command) cause) l l2
+    script_logs tells f f1 l l1 l2 front reads judged = record {
       reading = reads.part;
       calls = judged.calls;
       log = judged.log ∙ ap (λ (l : List Event). l ++ judged.calls) reads.log ∙ append_assoc l reads.part judged.calls;
-      answer = read text reads.part judged.calls (subst (λ (n : List ℕ). ReadsWhole n read_limit text reads.part) named (subst (λ (b : List ℕ). ReadsWhole name read_limit b reads.part) (sym is) reads.whole)) judged.does;
+      answer = read text reads.part judged.calls (subst (λ (n : List ℕ). ReadsWhole n read_limit text reads.part) named (subst (λ (b : List ℕ). ReadsWhole name read_limit b reads.part) (sym is) reads.whole))
+          (judges_over _ _ text cause (λ tree calls. does_over tells f f1 (λ told. sources_kept f f1 (front told).rest) command tree cause calls) judged.calls judged.does);
     }
 
   unread_cause : (e : WorldError) → IsUnread (script_cause e)
@@ -210,7 +166,7 @@ module _ (command : Command) (name : List ℕ) (named : name ≡ script_of comma
 
   module _ {T : Type 0} (items : T → List ℕ) (e : WorldError) where
     pub unread_sends : (f f1 : Files) → ReadsFront name read_limit items (Err e) f f1
-        → Sent (SendsScript (SendsFor command f.contents) f.contents (script_of command) (script_cause e)) f f1
+        → Sent (SendsScript (SendsFor command) f.contents (script_of command) (script_cause e)) f f1
     unread_sends f f1 reads = record {
       sent = [];
       output = reads.output ∙ sym (append-nil f.output);
@@ -218,122 +174,103 @@ module _ (command : Command) (name : List ℕ) (named : name ≡ script_of comma
       answer = unread (unread_cause e);
     }
 
-    pub unread_logs : (l l1 : List Event) → LogsRead name read_limit items (Err e) l l1 → Called (ReadsAndJudges (Does command) (script_of command) (script_cause e)) l l1
-    unread_logs l l1 reads = record {
+    pub unread_logs : (tells : Bool) (f : Files) (l l1 : List Event) → LogsRead name read_limit items (Err e) l l1 → Called (ReadsAndJudges (Does command tells f) (script_of command) (script_cause e)) l l1
+    unread_logs tells f l l1 reads = record {
       reading = reads.part;
       calls = [];
       log = reads.log ∙ ap (λ (p : List Event). l ++ p) (sym (append-nil reads.part));
       answer = unread e reads.part (subst (λ (n : List ℕ). TriesRead n read_limit e reads.part) named reads.tries) refl;
     }
 
+-- ---- when a command comes to its end
+
+module _ (before now : ℕ) (cause : Cause) (origin : HasOrigin before now cause) where
+  -- a text that is written is a success, unless a call failed
+  text_ends : IsTextCause cause → EndsUnlessFailed before now cause
+  text_ends (inl success) quiet = inl success
+  text_ends (inr (inl fault)) quiet = absurd (quiet (subst (HasOrigin before now) fault origin))
+  text_ends (inr (inr none)) quiet = inr none
+
+  pub shown_ends : (text sent : List ℕ) → SendsText text cause sent → EndsUnlessFailed before now cause
+  shown_ends text sent sends = text_ends sends.ran
+
+  pub checked_ends : (text : List ℕ) (tree : List Stmt) (sent : List ℕ) → HasType tree → FindsTypes (SendsText text) tree cause sent → EndsUnlessFailed before now cause
+  checked_ends text tree _ typed (untyped none) quiet = inr none
+  checked_ends text tree _ typed (refused refusal first is) quiet = absurd (never_both_so tree refusal typed first)
+  checked_ends text tree _ typed (has_type sent same sends) quiet = text_ends sends.ran quiet
+
+-- a tree that has none is not taken
+pub untyped_ends : (tree : List Stmt) (before now : ℕ) (cause : Cause) → HasType tree → (cause ≡ WithoutMemory) ⊎ ((refusal : Refusal) × IsFirst tree refusal × (cause ≡ Refused refusal)) → EndsUnlessFailed before now cause
+untyped_ends tree before now cause typed (inl none) quiet = inr none
+untyped_ends tree before now cause typed (inr (refusal, first, is)) quiet = absurd (never_both_so tree refusal typed first)
+
+module _ (P : List Stmt → Type 0) (text : List ℕ) (before now : ℕ) (cause : Cause) where
+  -- the tree of a text that is taken is the one that is found
+  pub tree_ends : (tree : List Stmt) → HasTree text tree → (P tree → EndsUnlessFailed before now cause) → HasTaken P text → EndsUnlessFailed before now cause
+  tree_ends tree has ends (other, is, taken) = ends (subst P (has.only other is) taken)
+
+  pub none_ends : (cause ≡ WithoutMemory) ⊎ HasNone text cause → HasTaken P text → EndsUnlessFailed before now cause
+  none_ends (inl none) taken quiet = inr none
+  none_ends (inr has) (tree, is, taken) quiet = absurd (has.none tree is)
+
+-- a text that is taken is read whole
+pub read_taken : (P : List Stmt → Type 0) (whole text : List ℕ) → take read_limit whole ≡ text → HasTaken P whole → HasTaken P text
+read_taken P whole text is (tree, has, taken) = (tree, subst (λ (t : List ℕ). IsScriptOf t tree) (sym (take_all read_limit whole (let few = has.fit.few in omega (arith, few))) ∙ is) has, taken)
+
+-- the files that a tree is run over hold what they held
+pub taken_over : (told : Bool) (f f' : Files) → KeepsRest f f' → (command : Command) (tree : List Stmt) → IsTakenTree told f command tree → IsTakenTree told f' command tree
+taken_over told f f' keeps command tree taken = subst (λ (h : Files). IsTakenTree told h command tree) (sym keeps) (kept command taken) where
+  kept : (command : Command) → IsTakenTree told f command tree → IsTakenTree told (record f { output = f'.output; given = f'.given }) command tree
+  kept (Run script options) taken = record { told = taken.told; has_type = taken.has_type; is_built = taken.is_built; is_done = taken.is_done }
+  kept (Check script) taken = taken
+  kept (Show script) taken = taken
+
+-- and its tree is taken still once it was read
+pub taken_text : (told : Bool) (f f' : Files) → KeepsRest f f' → (command : Command) (name : List ℕ) → name ≡ script_of command → {T : Type 0} (items : T → List ℕ) (t : T) (text : List ℕ) → text ≡ items t
+    → ReadsFront {E = WorldError} name read_limit items (Ok t) f f' → IsTaken told f command (f.contents (script_of command)) → IsTaken told f' command text
+taken_text told f f' keeps command name named items t text is reads taken =
+    let read = read_taken (IsTakenTree told f command) (f.contents (script_of command)) text (ap (λ (n : List ℕ). take read_limit (f.contents n)) (sym named) ∙ reads.front ∙ sym is) taken in
+    (read.0, read.1, taken_over told f f' keeps command read.0 read.2)
+
+pub unread_ends : (e : WorldError) (before now : ℕ) → HasOrigin before now (script_cause e) → EndsUnlessFailed before now (script_cause e)
+unread_ends Failed before now rose quiet = absurd (quiet rose)
+unread_ends NoMemory before now origin quiet = inr refl
+
 -- ---- the words
-
--- with a script that a command takes and no failed call
-module _ (before now : ℕ) (cause : Cause) (origin : HasOrigin before now cause) (quiet : Rose before now → ⊥) where
-  run_completes : IsRunCause cause → (cause ≡ Success) ⊎ (cause ≡ WithoutMemory)
-  run_completes (inl success) = inl success
-  run_completes (inr (inl fault)) = absurd (quiet (origin.fault fault))
-  run_completes (inr (inr none)) = inr none
-
-  form_completes : (contents : List ℕ → List ℕ) (tree : List Stmt) (name : List ℕ) (count : ℕ) (sent : List ℕ) → take_script name count ≡ tree → SendsTree contents tree cause sent → (cause ≡ Success) ⊎ (cause ≡ WithoutMemory)
-  form_completes contents tree name count _ is (no_form none built) = absurd (none name count (sym is))
-  form_completes contents tree name count _ is (of_form other_name other_count sent form ran puts) = run_completes ran
-
-  typed_completes : (tree : List Stmt) (DoesSo : Cause → List ℕ → Type 0) (sent : List ℕ) → HasType tree → ((s : List ℕ) → DoesSo cause s → (cause ≡ Success) ⊎ (cause ≡ WithoutMemory))
-      → FindsTypes DoesSo tree cause sent → (cause ≡ Success) ⊎ (cause ≡ WithoutMemory)
-  typed_completes tree DoesSo _ typed completes (untyped none) = inr none
-  typed_completes tree DoesSo _ typed completes (refused refusal first is) = absurd (never_both_so tree refusal typed first)
-  typed_completes tree DoesSo _ typed completes (has_type sent same does) = completes sent does
-
-  tree_completes : (command : Command) (contents : List ℕ → List ℕ) (text : List ℕ) (tree : List Stmt) (sent : List ℕ) → IsTaken command text → HasTree text tree → SendsFor command contents tree cause sent
-      → (cause ≡ Success) ⊎ (cause ≡ WithoutMemory)
-  tree_completes (Run script) contents text tree sent (name, count, form) has sends =
-      let is : take_script name count ≡ tree = has.only (take_script name count) form in
-      typed_completes tree (SendsTree contents tree) sent (subst HasType is (form_has_type name count)) (λ s. form_completes contents tree name count s is) sends
-  tree_completes (Check script) contents text tree sent (other, typed, is) has sends =
-      typed_completes tree (SendsText (check_text tree)) sent (subst HasType (has.only other is) typed) (λ s sent_so. run_completes sent_so.ran) sends
-  tree_completes (Show script) contents text tree sent taken has sends = run_completes sends.ran
-
-  has_tree : (command : Command) (text : List ℕ) → IsTaken command text → ((tree : List Stmt) → IsScriptOf text tree → ⊥) → ⊥
-  has_tree (Run script) text (name, count, form) none = none (take_script name count) form
-  has_tree (Check script) text (tree, typed, is) none = none tree is
-  has_tree (Show script) text (tree, is) none = none tree is
-
-  text_completes : (command : Command) (contents : List ℕ → List ℕ) (text sent : List ℕ) → IsTaken command text → Sends (SendsFor command contents) text cause sent → (cause ≡ Success) ⊎ (cause ≡ WithoutMemory)
-  text_completes command contents text _ taken (no_memory none) = inr none
-  text_completes command contents text _ taken (no_script none) = absurd (has_tree command text taken none.none)
-  text_completes command contents text _ taken (of_tree tree sent has sends) = tree_completes command contents text tree sent taken has sends
-
-  script_completes : (command : Command) (contents : List ℕ → List ℕ) (sent : List ℕ) → IsTaken command (contents (script_of command)) → SendsScript (SendsFor command contents) contents (script_of command) cause sent
-      → (cause ≡ Success) ⊎ (cause ≡ WithoutMemory)
-  script_completes command contents _ taken (unread (inl fault)) = absurd (quiet (origin.script_fault fault))
-  script_completes command contents _ taken (unread (inr none)) = inr none
-  script_completes command contents _ taken (read sent sends) = text_completes command contents (contents (script_of command)) sent taken sends
-
--- a verb is that of one command
-run_is_not_show : codes "run" ≡ codes "show" → ⊥
-run_is_not_show is = absurd cc
-
-run_is_not_check : codes "run" ≡ codes "check" → ⊥
-run_is_not_check is = absurd cc
-
-check_is_not_show : codes "check" ≡ codes "show" → ⊥
-check_is_not_show is = absurd cc
-
-script_is : (words : List (List ℕ)) (u v a b : List ℕ) → NamesScript words u a → NamesScript words v b → a ≡ b
-script_is words u v a b first second = ap (λ (ws : List (List ℕ)). get_or ws 1 []) (sym first.words_are ∙ second.words_are)
-
-verb_is : (words : List (List ℕ)) (u v a b : List ℕ) → NamesScript words u a → NamesScript words v b → u ≡ v
-verb_is words u v a b first second = ap (λ (ws : List (List ℕ)). get_or ws 0 []) (sym first.words_are ∙ second.words_are)
 
 -- the words are those of one command
 pub same_command : (words : List (List ℕ)) (c d : Command) → IsCommand words c → IsCommand words d → c ≡ d
-same_command words (Run a) (Run b) first second = ap Run (script_is words _ _ a b first second)
-same_command words (Run a) (Show b) first second = absurd (run_is_not_show (verb_is words _ _ a b first second))
-same_command words (Run a) (Check b) first second = absurd (run_is_not_check (verb_is words _ _ a b first second))
-same_command words (Check a) (Run b) first second = absurd (run_is_not_check (sym (verb_is words _ _ a b first second)))
-same_command words (Check a) (Check b) first second = ap Check (script_is words _ _ a b first second)
-same_command words (Check a) (Show b) first second = absurd (check_is_not_show (verb_is words _ _ a b first second))
-same_command words (Show a) (Check b) first second = absurd (check_is_not_show (sym (verb_is words _ _ a b first second)))
-same_command words (Show a) (Run b) first second = absurd (run_is_not_show (sym (verb_is words _ _ a b first second)))
-same_command words (Show a) (Show b) first second = ap Show (script_is words _ _ a b first second)
+same_command words c d first second = some_same (sym first ∙ second) where
+  some_same : Some c ≡ Some d → c ≡ d
+  some_same is = ap (λ (o : Option Command). of o) is where
+    of : Option Command → Command
+    of (Some x) = x
+    of _ = c
 
 module _ (words : List (List ℕ)) where
-  pub words_send : (command : Command) (cause : Cause) (f f' : Files) → IsCommand words command → Sent (SendsScript (SendsFor command f.contents) f.contents (script_of command) cause) f f'
+  pub words_send : (command : Command) (cause : Cause) (f f' : Files) → IsCommand words command → Sent (SendsScript (SendsFor command) f.contents (script_of command) cause) f f'
       → Sent (AnswersCommand words f.contents cause) f f'
   words_send command cause f f' is sends = record { sent = sends.sent; output = sends.output; rest = sends.rest; answer = of_command command sends.sent is sends.answer }
 
-  pub words_log : (command : Command) (cause : Cause) (l l' : List Event) → IsCommand words command → Called (ReadsAndJudges (Does command) (script_of command) cause) l l' → Called (Calls words cause) l l'
-  words_log command cause l l' is called = record { reading = called.reading; calls = called.calls; log = called.log; answer = of_command command called.reading called.calls is called.answer }
+  pub words_log : (tells : Bool) (files : Files) (command : Command) (cause : Cause) (l l' : List Event) → IsCommand words command → Called (ReadsAndJudges (Does command tells files) (script_of command) cause) l l' → Called (Calls tells files words cause) l l'
+  words_log tells files command cause l l' is called = record { reading = called.reading; calls = called.calls; log = called.log; answer = of_command command called.reading called.calls is called.answer }
 
   refused_answer : (refusal : WordsRefusal) (contents : List ℕ → List ℕ) → AreArguments words (Err refusal) → AnswersCommand words contents (words_cause refusal) []
   refused_answer words_refusal.Usage contents none = other_words none refl
   refused_answer words_refusal.NoMemory contents none = no_memory refl
 
-  refused_calls : (refusal : WordsRefusal) → AreArguments words (Err refusal) → Calls words (words_cause refusal) [] []
-  refused_calls words_refusal.Usage none = other_words none refl
-  refused_calls words_refusal.NoMemory none = no_memory refl
+  refused_calls : (tells : Bool) (files : Files) (refusal : WordsRefusal) → AreArguments words (Err refusal) → Calls tells files words (words_cause refusal) [] []
+  refused_calls tells files words_refusal.Usage none = other_words none refl
+  refused_calls tells files words_refusal.NoMemory none = no_memory refl
 
   pub refused_send : (refusal : WordsRefusal) (f : Files) → AreArguments words (Err refusal) → Sent (AnswersCommand words f.contents (words_cause refusal)) f f
   refused_send refusal f is = record { sent = []; output = sym (append-nil f.output); rest = refl; answer = refused_answer refusal f.contents is }
 
-  pub refused_log : (refusal : WordsRefusal) (l : List Event) → AreArguments words (Err refusal) → Called (Calls words (words_cause refusal)) l l
-  refused_log refusal l is = record { reading = []; calls = []; log = sym (append-nil l); answer = refused_calls refusal is }
+  pub refused_log : (tells : Bool) (files : Files) (refusal : WordsRefusal) (l : List Event) → AreArguments words (Err refusal) → Called (Calls tells files words (words_cause refusal)) l l
+  refused_log tells files refusal l is = record { reading = []; calls = []; log = sym (append-nil l); answer = refused_calls tells files refusal is }
 
-  -- a command comes to its end
-  pub command_completes : (command other : Command) (before now : ℕ) (cause : Cause) (contents : List ℕ → List ℕ) (sent : List ℕ) → IsCommand words command → IsCommand words other → HasOrigin before now cause
-      → (Rose before now → ⊥) → IsTaken other (contents (script_of other)) → SendsScript (SendsFor command contents) contents (script_of command) cause sent → (cause ≡ Success) ⊎ (cause ≡ WithoutMemory)
-  command_completes command other before now cause contents sent is is_other origin quiet taken sends =
-      script_completes before now cause origin quiet command contents sent
-      (subst (λ (c : Command). IsTaken c (contents (script_of c))) (same_command words other command is_other is) taken) sends
-
-  pub refused_completes : (refusal : WordsRefusal) (command : Command) → AreArguments words (Err refusal) → IsCommand words command → (words_cause refusal ≡ Success) ⊎ (words_cause refusal ≡ WithoutMemory)
-  refused_completes words_refusal.Usage command none is = absurd (none command is)
-  refused_completes words_refusal.NoMemory command none is = inr refl
-
--- a list of two members
-pub two_members : {X : Type 0} (xs : List X) (a b : X) → 2 ≤ length xs → length xs < 3 → a ≡ get_or xs 0 a → b ≡ get_or xs 1 b → xs ≡ a ∷ b ∷ []
-two_members [] a b some few first second = absurd (omega (arith, some))
-two_members (x ∷ []) a b some few first second = absurd (omega (arith, some))
-two_members (x ∷ y ∷ []) a b some few first second = ap₂ (λ u v. u ∷ v ∷ []) (sym first) (sym second)
-two_members (x ∷ y ∷ z ∷ xs) a b some few first second = absurd (omega (arith, few))
+  pub refused_ends : (refusal : WordsRefusal) (command : Command) (before now : ℕ) → AreArguments words (Err refusal) → IsCommand words command → EndsUnlessFailed before now (words_cause refusal)
+  refused_ends words_refusal.Usage command before now none is quiet = absurd (none_some (sym none ∙ is)) where
+    none_some : None ≡ Some command → ⊥
+    none_some e = absurd cc
+  refused_ends words_refusal.NoMemory command before now none is quiet = inr refl

@@ -1,11 +1,8 @@
 mod CommandSteps
 mod ByteFronts
-mod FormTypes
 mod JudgeSteps
-mod PassSteps
 mod ReportSteps
 mod RestSteps
+mod RunSteps
 mod ScriptSteps
-mod SeenSteps
-mod TakeSteps
 mod WriteSteps

@@ -21,7 +21,7 @@ use Rattle.cd_world.specs.Live.{open_as}
 use Rattle.cd_world.specs.Files.{Files, left_at, with_given, after_open, ReadsFile, ClosesFile}
 use Rattle.cd_cli.specs.Script.{StopsIn, ComesFrom, TriesRead, Fills, IsGaveOn, ScriptReads, LogsFill, ReadsWhole, none_called, open_failed, opened_closed, ReadsFront, LogsRead}
 use Rattle.cd_cli.specs.Cause.{answer_of}
-use Rattle.cd_cli.specs.Take.{KeepsRest}
+use Rattle.cd_cli.specs.Streams.{KeepsRest}
 use Rattle.cd_cli.proofs.RestSteps.{keeps_on, keeps_by}
 use Rattle.cd_cli.proofs.ByteFronts.{take-given, left_after_read}
 use Rattle.cd_cli.proofs.WriteSteps.{nothing_more, answered}

@@ -16,7 +16,7 @@ use Rattle.cd_world.specs.Files.{Files, with_output, with_errors, WritesOutput, 
 use Rattle.cd_cli.specs.declared.streams.Stream.{Stream}
 use Rattle.cd_cli.specs.declared.streams.Stream.TheVariants.{Output, Errors}
 use Rattle.cd_cli.specs.Streams.{descriptor_of, with_sent, WritesFront, LogsFront}
-use Rattle.cd_cli.specs.Take.{IsCalm, NoneFailed}
+use Rattle.cd_cli.specs.Streams.{IsCalm, NoneFailed}
 
 pub nothing_more : (P : Event → Type 0) → All P []
 nothing_more P k e lt = absurd (omega (arith, lt))

@@ -1,34 +1,38 @@
--- What the command does: it reads a script and judges it, and then shows it, or finds its types and says what they are, or runs it, where it is of the form.
-use Rattle.std.specs.Prelude.{◌≡◌, ◌≢◌, ◌≤◌, ◌⊎◌, ℕ, List, [], ◌++◌, All}
+-- What the command does: it reads a script and judges it, and then shows it, or finds its types and says what they are, or runs it.
+use Rattle.std.specs.Prelude.{◌≡◌, ◌≢◌, ◌⊎◌, ℕ, Bool, IsTrue, List, [], ◌++◌, All, Result}
 use Rattle.cd_elem.specs.declared.script.Stmt.{Stmt}
 use Rattle.cd_world.specs.declared.event.Event.{Event}
 use Rattle.cd_world.specs.declared.world.WorldError.{WorldError}
 use Rattle.cd_world.specs.Causes.{Rose}
 use Rattle.cd_world.specs.Events.{written_to, IsWriteOn}
 use Rattle.cd_world.specs.Files.{Files}
+use Rattle.cd_meaning.specs.Places.{place_in}
 use Rattle.cd_meaning.specs.Stream.{Value, Done}
 use Rattle.cd_meaning.specs.Run.{ending}
-use Rattle.cd_meaning.specs.Scripts.{script_run, standard_output, whole_files}
-use Rattle.cd_meaning.specs.TakeForm.{take_script}
+use Rattle.cd_meaning.specs.Scripts.{script_places, script_run, whole_files}
 use Rattle.cd_grammar.specs.CanonicalText.{canonical_text}
 use Rattle.cd_types.specs.declared.refusal.Refusal.{Refusal}
 use Rattle.cd_types.specs.Typing.{HasType, IsRefused}
+use Rattle.cd_scope.specs.Due.{Setting}
+use Rattle.cd_run.specs.Going.{outside}
+use Rattle.cd_run.specs.Ran.{Ran}
+use Rattle.cd_run.specs.Scripts.{IsBuiltScript}
+use Rattle.cd_run.specs.declared.fault.RunFault.{RunFault}
+use Rattle.cd_run.specs.declared.options.Options.{Options}
 use Rattle.cd_report.specs.CheckText.{check_text}
 use Rattle.cd_report.specs.declared.cause.Cause.{Cause}
-use Rattle.cd_report.specs.declared.cause.Cause.TheVariants.{Success, Usage, ScriptFault, Refused, NotBuilt, OutsideFault, NoMemory}
-use Rattle.cd_cli.specs.Cause.{script_cause}
+use Rattle.cd_report.specs.declared.cause.Cause.TheVariants.{Success, Usage, ScriptFault, Refused, NotBuilt, NoMemory}
+use Rattle.cd_cli.specs.Cause.{cause_of_run, output_fault, script_cause}
 use Rattle.cd_cli.specs.declared.arguments.Command.{Command}
 use Rattle.cd_cli.specs.declared.arguments.Command.TheVariants.{Run, Check, Show}
 use Rattle.cd_cli.specs.Arguments.{IsCommand, IsNone, script_of}
-use Rattle.cd_cli.specs.Form.{NoForm}
 use Rattle.cd_cli.specs.Judge.{read_limit, HasTree, HasNone, IsScriptOf}
 use Rattle.cd_cli.specs.Script.{ReadsWhole, TriesRead}
-use Rattle.cd_cli.specs.Seen.{seen_of}
-use Rattle.cd_cli.specs.Take.{KeepsRest, NoneFailed, OpensAndCloses}
+use Rattle.cd_cli.specs.Streams.{KeepsRest, NoneFailed}
 
--- a run came to its end, or a call on the outside was refused, or memory was wanting
-abbrev pub IsRunCause : Cause → Type 0
-IsRunCause cause = (cause ≡ Success) ⊎ ((cause ≡ OutsideFault) ⊎ (cause ≡ NoMemory))
+-- a text was written, or a write failed, or memory was wanting
+abbrev pub IsTextCause : Cause → Type 0
+IsTextCause cause = (cause ≡ Success) ⊎ ((cause ≡ output_fault) ⊎ (cause ≡ NoMemory))
 
 -- a script could not be read: a call on the outside failed, or memory was wanting
 abbrev pub IsUnread : Cause → Type 0
@@ -36,30 +40,25 @@ IsUnread cause = (cause ≡ ScriptFault) ⊎ (cause ≡ NoMemory)
 
 -- ---- by what was called
 
--- A script of the form was run by these calls. They wrote a front of what standard output gets of its meaning over what
--- was seen; and all of that, and it is done, where the cause is Success. No call failed, unless that is the cause.
-pub record Runs (name : List ℕ) (count : ℕ) (cause : Cause) (calls : List Event) : Type 0 where
-  pub shape : OpensAndCloses name calls
-  pub behind : List ℕ
-  pub puts : standard_output (take_script name count) (seen_of calls) ≡ written_to 1 calls ++ behind
-  pub whole : cause ≡ Success → behind ≡ []
-  pub done : cause ≡ Success → ending (script_run (take_script name count) (seen_of calls)) ≡ Done Value.Unit
-  pub calm : cause ≢ OutsideFault → NoneFailed calls
+-- how a script is run: what its sites are, how much is read of each and by one call, and whether the outside tells its files
+abbrev pub setting_of : List Stmt → Options → Bool → Setting
+setting_of tree options tells = record { place = place_in (script_places tree); limit = options.limit; size = options.chunk; tells = tells }
 
--- A tree was run by these calls where it is of the form.
-pub data RunsTree (tree : List Stmt) (cause : Cause) : List Event → Type 0 where
-  no_form : NoForm tree → cause ≡ NotBuilt → RunsTree tree cause []
-  of_form : (name : List ℕ) (count : ℕ) (calls : List Event) → tree ≡ take_script name count → IsRunCause cause → Runs name count cause calls → RunsTree tree cause calls
+-- A tree was run by these calls, over these files, where all of it is built; and else nothing was called.
+pub data RunsTree (options : Options) (tells : Bool) (files : Files) (tree : List Stmt) (cause : Cause) : List Event → Type 0 where
+  not_built : (IsBuiltScript tree → ⊥) → cause ≡ NotBuilt → RunsTree options tells files tree cause []
+  built : (answer : Result (Unit {0}) RunFault) (calls : List Event) → IsBuiltScript tree → cause ≡ cause_of_run answer
+      → Ran (setting_of tree options tells) (script_run tree) answer (outside [] files) (outside calls files) → RunsTree options tells files tree cause calls
 
 -- These calls wrote a text. They are writes to standard output alone. They wrote a front of it, and all of it where the cause is
 -- Success. No call failed, unless that is the cause.
 pub record WritesText (text : List ℕ) (cause : Cause) (calls : List Event) : Type 0 where
-  pub ran : IsRunCause cause
+  pub ran : IsTextCause cause
   pub writes : All (IsWriteOn 1) calls
   pub behind : List ℕ
   pub front : text ≡ written_to 1 calls ++ behind
   pub whole : cause ≡ Success → behind ≡ []
-  pub calm : cause ≢ OutsideFault → NoneFailed calls
+  pub calm : cause ≢ output_fault → NoneFailed calls
 
 -- The types of a tree were found. Where it has none it was refused, and nothing was done; and else this was done, which is listed.
 pub data FindsTypes {X : Type 0} (DoesSo : Cause → List X → Type 0) (tree : List Stmt) (cause : Cause) : List X → Type 0 where
@@ -67,11 +66,15 @@ pub data FindsTypes {X : Type 0} (DoesSo : Cause → List X → Type 0) (tree : 
   refused : (refusal : Refusal) → IsRefused tree refusal → cause ≡ Refused refusal → FindsTypes DoesSo tree cause []
   has_type : (done : List X) → HasType tree → DoesSo cause done → FindsTypes DoesSo tree cause done
 
--- What a command does with a tree, by its calls.
-abbrev pub Does : Command → List Stmt → Cause → List Event → Type 0
-Does (Run script) tree = FindsTypes (RunsTree tree) tree
-Does (Check script) tree = FindsTypes (WritesText (check_text tree)) tree
-Does (Show script) tree = WritesText (canonical_text tree)
+-- A tree was run where it has a type.
+abbrev pub RunsScript : Options → Bool → Files → List Stmt → Cause → List Event → Type 0
+RunsScript options tells files tree = FindsTypes (RunsTree options tells files tree) tree
+
+-- What a command does with a tree, by its calls, where the files held this before.
+abbrev pub Does : Command → Bool → Files → List Stmt → Cause → List Event → Type 0
+Does (Run script options) tells files tree = RunsScript options tells files tree
+Does (Check script) tells files tree = FindsTypes (WritesText (check_text tree)) tree
+Does (Show script) tells files tree = WritesText (canonical_text tree)
 
 -- A text was judged, and this was done with its tree by these calls.
 pub data Judges (DoesTree : List Stmt → Cause → List Event → Type 0) (text : List ℕ) (cause : Cause) : List Event → Type 0 where
@@ -90,12 +93,12 @@ pub data ReadsAndJudges (DoesTree : List Stmt → Cause → List Event → Type 
   unread : (error : WorldError) (reading : List Event) → TriesRead script read_limit error reading → cause ≡ script_cause error → ReadsAndJudges DoesTree script cause reading []
   read : (text : List ℕ) (reading calls : List Event) → ReadsWhole script read_limit text reading → Judges DoesTree text cause calls → ReadsAndJudges DoesTree script cause reading calls
 
--- The words are read, and nothing is called for words of no command.
-pub data Calls (words : List (List ℕ)) (cause : Cause) : List Event → List Event → Type 0 where
-  no_memory : cause ≡ NoMemory → Calls words cause [] []
-  other_words : IsNone words → cause ≡ Usage → Calls words cause [] []
-  of_command : (command : Command) (reading calls : List Event) → IsCommand words command → ReadsAndJudges (Does command) (script_of command) cause reading calls
-      → Calls words cause reading calls
+-- The words are read, and nothing is called for words of no command. The files are those before the call, which reading the script leaves.
+pub data Calls (tells : Bool) (files : Files) (words : List (List ℕ)) (cause : Cause) : List Event → List Event → Type 0 where
+  no_memory : cause ≡ NoMemory → Calls tells files words cause [] []
+  other_words : IsNone words → cause ≡ Usage → Calls tells files words cause [] []
+  of_command : (command : Command) (reading calls : List Event) → IsCommand words command → ReadsAndJudges (Does command tells files) (script_of command) cause reading calls
+      → Calls tells files words cause reading calls
 
 -- What was called in all: first these calls, then those.
 pub record Called (Answer : List Event → List Event → Type 0) (l l' : List Event) : Type 0 where
@@ -104,36 +107,29 @@ pub record Called (Answer : List Event → List Event → Type 0) (l l' : List E
   pub log : l' ≡ l ++ (reading ++ calls)
   pub answer : Answer reading calls
 
--- ---- by what the files hold
+-- ---- by what the files hold, for all but runs, whose outputs are told by their calls
 
--- A script of the form was run. A front of what standard output gets of its meaning over the whole file was sent; and
--- all of that, and it is done, where the cause is Success. This holds for every limit on a source that is not below the
--- count, and whatever standard input holds.
-pub record Puts (contents : List ℕ → List ℕ) (name : List ℕ) (count : ℕ) (cause : Cause) (sent : List ℕ) : Type 0 where
-  pub behind : List ℕ
-  pub puts : (input : List ℕ) (limit : ℕ) → count ≤ limit
-      → standard_output (take_script name count) (whole_files contents input limit (take_script name count)) ≡ sent ++ behind
-  pub whole : cause ≡ Success → behind ≡ []
-  pub done : cause ≡ Success → (input : List ℕ) (limit : ℕ) → count ≤ limit
-      → ending (script_run (take_script name count) (whole_files contents input limit (take_script name count))) ≡ Done Value.Unit
+abbrev pub IsNoRun : Command → Type 0
+IsNoRun (Run script options) = ⊥
+IsNoRun (Check script) = Unit {0}
+IsNoRun (Show script) = Unit {0}
 
--- A tree was run where it is of the form.
-pub data SendsTree (contents : List ℕ → List ℕ) (tree : List Stmt) (cause : Cause) : List ℕ → Type 0 where
-  no_form : NoForm tree → cause ≡ NotBuilt → SendsTree contents tree cause []
-  of_form : (name : List ℕ) (count : ℕ) (sent : List ℕ) → tree ≡ take_script name count → IsRunCause cause → Puts contents name count cause sent → SendsTree contents tree cause sent
+-- these words run no script
+abbrev pub RunNothing : List (List ℕ) → Type 0
+RunNothing words = (command : Command) → IsCommand words command → IsNoRun command
 
 -- A front of a text was sent, and all of it where the cause is Success.
 pub record SendsText (text : List ℕ) (cause : Cause) (sent : List ℕ) : Type 0 where
-  pub ran : IsRunCause cause
+  pub ran : IsTextCause cause
   pub behind : List ℕ
   pub front : text ≡ sent ++ behind
   pub whole : cause ≡ Success → behind ≡ []
 
--- What a command sends for a tree.
-abbrev pub SendsFor : Command → (List ℕ → List ℕ) → List Stmt → Cause → List ℕ → Type 0
-SendsFor (Run script) contents tree = FindsTypes (SendsTree contents tree) tree
-SendsFor (Check script) contents tree = FindsTypes (SendsText (check_text tree)) tree
-SendsFor (Show script) contents tree = SendsText (canonical_text tree)
+-- What a command sends for a tree, where it runs none.
+abbrev pub SendsFor : Command → List Stmt → Cause → List ℕ → Type 0
+SendsFor (Run script options) tree cause sent = ⊥
+SendsFor (Check script) tree cause sent = FindsTypes (SendsText (check_text tree)) tree cause sent
+SendsFor (Show script) tree cause sent = SendsText (canonical_text tree) cause sent
 
 -- A text was judged, and this was sent for its tree.
 pub data Sends (SendsSo : List Stmt → Cause → List ℕ → Type 0) (text : List ℕ) (cause : Cause) : List ℕ → Type 0 where
@@ -150,7 +146,7 @@ pub data SendsScript (SendsSo : List Stmt → Cause → List ℕ → Type 0) (co
 pub data AnswersCommand (words : List (List ℕ)) (contents : List ℕ → List ℕ) (cause : Cause) : List ℕ → Type 0 where
   no_memory : cause ≡ NoMemory → AnswersCommand words contents cause []
   other_words : IsNone words → cause ≡ Usage → AnswersCommand words contents cause []
-  of_command : (command : Command) (sent : List ℕ) → IsCommand words command → SendsScript (SendsFor command contents) contents (script_of command) cause sent
+  of_command : (command : Command) (sent : List ℕ) → IsCommand words command → SendsScript (SendsFor command) contents (script_of command) cause sent
       → AnswersCommand words contents cause sent
 
 -- What was sent in all, by the answer to a tree, a text, a script, and to the words. No file is changed, nothing is taken of standard input, and
@@ -158,16 +154,41 @@ pub data AnswersCommand (words : List (List ℕ)) (contents : List ℕ → List 
 pub record Sent (Answer : List ℕ → Type 0) (f f' : Files) : Type 0 where
   pub sent : List ℕ
   pub output : f'.output ≡ f.output ++ sent
-  pub rest : KeepsRest f f'
   pub answer : Answer sent
+  pub rest : KeepsRest f f'
 
--- a text that this command takes: a script of the form to run, one that has a type to check, and any script to show
-abbrev pub IsTaken : Command → List ℕ → Type 0
-IsTaken (Run script) text = (name : List ℕ) × (count : ℕ) × IsScriptOf text (take_script name count)
-IsTaken (Check script) text = (tree : List Stmt) × HasType tree × IsScriptOf text tree
-IsTaken (Show script) text = (tree : List Stmt) × IsScriptOf text tree
+-- ---- when a command comes to its end
 
--- With the words of a command, a script that it takes and no failed call, it comes to its end, or there is no memory.
-abbrev pub Completes : List (List ℕ) → (List ℕ → List ℕ) → ℕ → ℕ → Cause → Type 0
-Completes words contents before now cause =
-    (command : Command) → IsCommand words command → IsTaken command (contents (script_of command)) → (Rose before now → ⊥) → (cause ≡ Success) ⊎ (cause ≡ NoMemory)
+-- the meaning of a tree over all that the files hold, up to the limit, is done
+abbrev pub IsDoneOver : Files → Options → List Stmt → Type 0
+IsDoneOver files options tree = ending (script_run tree (whole_files files.contents files.input options.limit tree)) ≡ Done Value.Unit
+
+-- A tree that can be run to its end: it is built, and what it means over all that the files hold is done. That this is what
+-- is done is known where the outside tells its calls.
+pub record IsTakenRun (tells_log : Bool) (files : Files) (options : Options) (tree : List Stmt) : Type 0 where
+  pub told : IsTrue tells_log
+  pub has_type : HasType tree
+  pub is_built : IsBuiltScript tree
+  pub is_done : IsDoneOver files options tree
+
+-- A tree that a command takes.
+abbrev pub IsTakenTree : Bool → Files → Command → List Stmt → Type 0
+IsTakenTree told files (Run script options) tree = IsTakenRun told files options tree
+IsTakenTree told files (Check script) tree = HasType tree
+IsTakenTree told files (Show script) tree = Unit {0}
+
+-- The bytes of a script, of whose tree this holds.
+abbrev pub HasTaken : (List Stmt → Type 0) → List ℕ → Type 0
+HasTaken TreeIs text = (tree : List Stmt) × IsScriptOf text tree × TreeIs tree
+
+abbrev pub IsTaken : Bool → Files → Command → List ℕ → Type 0
+IsTaken told files command = HasTaken (IsTakenTree told files command)
+
+-- with no failed call it comes to its end, or there is no memory
+abbrev pub EndsUnlessFailed : ℕ → ℕ → Cause → Type 0
+EndsUnlessFailed before now cause = (Rose before now → ⊥) → (cause ≡ Success) ⊎ (cause ≡ NoMemory)
+
+-- With the words of a command and a script that it takes.
+abbrev pub Completes : Bool → Files → List (List ℕ) → ℕ → ℕ → Cause → Type 0
+Completes told files words before now cause =
+    (command : Command) → IsCommand words command → IsTaken told files command (files.contents (script_of command)) → EndsUnlessFailed before now cause

@@ -1,10 +1,8 @@
 pub mod Cause
 pub mod Command
-pub mod Form
 pub mod Judge
 pub mod Report
 pub mod Script
-pub mod Seen
 pub mod Streams
-pub mod Take
 pub mod Arguments
+pub mod ArgumentRows

@@ -1,5 +1,5 @@
 -- How a cause is told on standard error, behind all else that the command does.
-use Rattle.std.specs.Prelude.{◌≡◌, ◌≢◌, ℕ, List, [], ◌++◌, All, Result, Ok, Err}
+use Rattle.std.specs.Prelude.{◌≡◌, ◌≢◌, ℕ, Bool, List, [], ◌++◌, All, Result, Ok, Err}
 use Rattle.cd_world.specs.declared.event.Event.{Event}
 use Rattle.cd_world.specs.declared.world.WorldError.{WorldError}
 use Rattle.cd_world.specs.declared.world.WorldError.TheVariants as refused
@@ -12,8 +12,7 @@ use Rattle.cd_report.specs.declared.cause.Said.{Said}
 use Rattle.cd_report.specs.declared.cause.Said.TheVariants.{Whole, WriteFailed, NoMemory}
 use Rattle.cd_cli.specs.Cause.{HasOrigin}
 use Rattle.cd_cli.specs.Command.{Completes}
-use Rattle.cd_cli.specs.Streams.{EndsInFailure}
-use Rattle.cd_cli.specs.Take.{NoneFailed}
+use Rattle.cd_cli.specs.Streams.{EndsInFailure, NoneFailed}
 
 -- what is said of a line once it was written, or not
 abbrev pub said_of : {T : Type 0} → Result T WorldError → Said
@@ -62,8 +61,8 @@ pub record HasCount (before now : ℕ) (cause : Cause) (said : Said) : Type 0 wh
   pub none_failed : cause ≡ Success → now ≡ before
 
 -- With no call that failed before the line was told, a command comes to its end, or there is no memory.
-abbrev pub CompletesBefore : List (List ℕ) → (List ℕ → List ℕ) → ℕ → ℕ → Cause → Said → Type 0
-CompletesBefore words contents before now cause said = (middle : ℕ) × IsReported middle now said × Completes words contents before middle cause
+abbrev pub CompletesBefore : Bool → Files → List (List ℕ) → ℕ → ℕ → Cause → Said → Type 0
+CompletesBefore told files words before now cause said = (middle : ℕ) × IsReported middle now said × Completes told files words before middle cause
 
 -- What was called in all: first these calls, then those, then those that told the line, and no others.
 pub record CalledAndTold (Answer : List Event → List Event → Type 0) (line : List ℕ) (said : Said) (l l' : List Event) : Type 0 where

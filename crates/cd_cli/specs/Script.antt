@@ -7,7 +7,7 @@ use Rattle.cd_world.specs.declared.world.WorldError.{WorldError}
 use Rattle.cd_world.specs.declared.world.WorldError.TheVariants.{Failed, NoMemory}
 use Rattle.cd_world.specs.Events.{bytes_given, IsCloseOf}
 use Rattle.cd_world.specs.Files.{Files, left_at}
-use Rattle.cd_cli.specs.Take.{KeepsRest}
+use Rattle.cd_cli.specs.Streams.{KeepsRest}
 
 -- The front of a buffer has what was left of a file, up to the size of the buffer.
 pub record Fills {E : Type 0} (d : ℕ) (name buffer : List ℕ) (result : Result ℕ E) (f f' : Files) : Type 0 where

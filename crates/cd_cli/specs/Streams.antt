@@ -1,15 +1,34 @@
 -- What writing to a standard stream does to the files, and what it calls.
-use Rattle.std.specs.Prelude.{◌≡◌, ◌≢◌, ℕ, List, [], ◌∷◌, ◌++◌, All, Result, Err, OnOk, OnErr}
+use Rattle.std.specs.Prelude.{◌≡◌, ◌≢◌, ℕ, Bool, true, false, List, [], ◌∷◌, ◌++◌, All, Result, Err, OnOk, OnErr}
 use Rattle.cd_world.specs.declared.event.Descriptor.{Descriptor}
 use Rattle.cd_world.specs.declared.event.Event.{Event}
-use Rattle.cd_world.specs.declared.event.Event.TheVariants.{WriteFailed}
+use Rattle.cd_world.specs.declared.event.Event.TheVariants.{OpenFailed, ReadFailed, WriteFailed, CloseFailed as CloseFailing}
 use Rattle.cd_world.specs.declared.world.WorldError.{WorldError}
 use Rattle.cd_world.specs.declared.world.WorldError.TheVariants.{Failed}
 use Rattle.cd_world.specs.Events.{written_to, IsWriteOn}
 use Rattle.cd_world.specs.Files.{Files, with_output, with_errors}
 use Rattle.cd_cli.specs.declared.streams.Stream.{Stream}
 use Rattle.cd_cli.specs.declared.streams.Stream.TheVariants.{Output, Errors}
-use Rattle.cd_cli.specs.Take.{NoneFailed}
+
+-- a call that failed
+abbrev pub is_failure : Event → Bool
+is_failure (OpenFailed name) = true
+is_failure (ReadFailed from) = true
+is_failure (WriteFailed to) = true
+is_failure (CloseFailing which) = true
+is_failure _ = false
+
+abbrev pub IsCalm : Event → Type 0
+IsCalm e = is_failure e ≡ false
+
+-- no call failed
+abbrev pub NoneFailed : List Event → Type 0
+NoneFailed events = All IsCalm events
+
+-- Of the files and streams nothing changed but what stands on standard output. How much was given on each descriptor is left open, for that is
+-- forgotten when the descriptor is closed.
+abbrev pub KeepsRest : Files → Files → Type 0
+KeepsRest f f' = f' ≡ record f { output = f'.output; given = f'.given }
 
 abbrev pub descriptor_of : Stream → Descriptor
 descriptor_of Output = record { 0 = 1 }

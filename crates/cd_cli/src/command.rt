@@ -7,18 +7,17 @@ ghost use Rattle.cd_report.specs.Cause.{status_of};
 ghost use Rattle.cd_report.specs.CauseText.{cause_text};
 ghost use Rattle.cd_report.specs.CheckText as line;
 ghost use Rattle.cd_cli.specs.Cause.{HasOrigin};
-ghost use Rattle.cd_cli.specs.Arguments.{script_of};
-ghost use Rattle.cd_cli.specs.Command.{Does, FindsTypes, RunsTree, WritesText, SendsFor, SendsTree, SendsText, Judges, Logs, ReadsAndJudges, Calls, Called, Sends, SendsScript, AnswersCommand, Sent, Completes};
+ghost use Rattle.cd_cli.specs.Arguments.{HasOptions, script_of};
+ghost use Rattle.cd_cli.specs.Command.{Does, FindsTypes, WritesText, IsNoRun, RunNothing, SendsFor, SendsText, Judges, Logs, ReadsAndJudges, Calls, Called, Sends, SendsScript, AnswersCommand, Sent, IsTaken, IsTakenTree, EndsUnlessFailed, Completes};
 ghost use Rattle.cd_cli.specs.Report.{HasCount, SentAndTold, CalledAndTold, CompletesBefore};
 
 use crate::arguments::{Command, read_words};
-use crate::cause::{Outcome, run_cause, script_cause};
-use crate::form::{Form, form_of};
+use crate::cause::{Outcome, script_cause, text_cause};
 use crate::judge::{find_types, judge};
 use crate::report::report;
+use crate::run::run_tree;
 use crate::script::read_script;
 use crate::streams::{Stream, write_all};
-use crate::take::run_take;
 use cd_elem::{NoMemory, Script};
 use cd_report::{Cause, check_text};
 use cd_script::print;
@@ -29,18 +28,19 @@ use std::alloc::Global;
 ///
 /// `run SCRIPT`, `check SCRIPT` and `show SCRIPT` read the script file to its end, or to 65,537 bytes, close it and judge
 /// it. `show` then writes its canonical text to standard output. The others find its types. `check` says in a line on
-/// standard output how many statements and sites it has and how many elements it may hold, and `run` runs it where it is
-/// of the form `run sourceFile "NAME" | takeE N | stdout;`. Everything that was opened in the call is closed again, whatever comes. The line of the cause is
+/// standard output how many statements and sites it has and how many elements it may hold, and `run` runs it, where all
+/// of it is built. Everything that was opened in the call is closed again, whatever comes. The line of the cause is
 /// written to standard error after that, as the last thing of all.
 pub fn conduit_main<W: World>(alloc: Global, words: &[String], world: &mut W) -> Outcome
     ensures status { result.status ≡ status_of result.cause }
     ensures origin { HasCount (W.faults world.old) (W.faults world.new) result.cause result.said }
     ensures live { W.live world.new ≡ W.live world.old }
-    ensures files { IsTrue W.tells_files → SentAndTold (AnswersCommand (map string_bytes words.now) (W.files world.old).contents result.cause) (cause_text result.cause) result.said
-        (W.files world.old) (W.files world.new) }
+    ensures files { IsTrue W.tells_files → RunNothing (map string_bytes words.now)
+        → SentAndTold (AnswersCommand (map string_bytes words.now) (W.files world.old).contents result.cause) (cause_text result.cause) result.said (W.files world.old) (W.files world.new) }
     ensures complete { IsTrue W.tells_files
-        → CompletesBefore (map string_bytes words.now) (W.files world.old).contents (W.faults world.old) (W.faults world.new) result.cause result.said }
-    ensures log { IsTrue W.tells_log → CalledAndTold (Calls (map string_bytes words.now) result.cause) (cause_text result.cause) result.said (W.log world.old) (W.log world.new) }
+        → CompletesBefore W.tells_log (W.files world.old) (map string_bytes words.now) (W.faults world.old) (W.faults world.new) result.cause result.said }
+    ensures log { IsTrue W.tells_log
+        → CalledAndTold (Calls W.tells_files (W.files world.old) (map string_bytes words.now) result.cause) (cause_text result.cause) result.said (W.log world.old) (W.log world.new) }
 {
     let cause = answer_words(alloc, words, world);
     let said = report(alloc, world, cause);
@@ -55,10 +55,12 @@ pub fn conduit_main<W: World>(alloc: Global, words: &[String], world: &mut W) ->
 fn answer_words<W: World>(alloc: Global, words: &[String], world: &mut W) -> Cause
     ensures origin { HasOrigin (W.faults world.old) (W.faults world.new) result }
     ensures live { W.live world.new ≡ W.live world.old }
-    ensures files { IsTrue W.tells_files → Sent (AnswersCommand (map string_bytes words.now) (W.files world.old).contents result) (W.files world.old) (W.files world.new) }
+    ensures files { IsTrue W.tells_files → RunNothing (map string_bytes words.now)
+        → Sent (AnswersCommand (map string_bytes words.now) (W.files world.old).contents result) (W.files world.old) (W.files world.new) }
     ensures complete { IsTrue W.tells_files
-        → Completes (map string_bytes words.now) (W.files world.old).contents (W.faults world.old) (W.faults world.new) result }
-    ensures log { IsTrue W.tells_log → Called (Calls (map string_bytes words.now) result) (W.log world.old) (W.log world.new) }
+        → Completes W.tells_log (W.files world.old) (map string_bytes words.now) (W.faults world.old) (W.faults world.new) result }
+    ensures log { IsTrue W.tells_log
+        → Called (Calls W.tells_files (W.files world.old) (map string_bytes words.now) result) (W.log world.old) (W.log world.new) }
 {
     match read_words(alloc, words) {
         Ok(command) => run_command(alloc, world, &command),
@@ -68,73 +70,54 @@ fn answer_words<W: World>(alloc: Global, words: &[String], world: &mut W) -> Cau
 
 /// Reads the script of a command, and does with it what the command says.
 fn run_command<W: World>(alloc: Global, world: &mut W, command: &Command) -> Cause
+    requires options { HasOptions command.now }
     ensures origin { HasOrigin (W.faults world.old) (W.faults world.new) result }
     ensures live { W.live world.new ≡ W.live world.old }
-    ensures files { IsTrue W.tells_files
-        → Sent (SendsScript (SendsFor command.now (W.files world.old).contents) (W.files world.old).contents (script_of command.now) result) (W.files world.old) (W.files world.new) }
-    ensures log { IsTrue W.tells_log → Called (ReadsAndJudges (Does command.now) (script_of command.now) result) (W.log world.old) (W.log world.new) }
+    ensures files { IsTrue W.tells_files → IsNoRun command.now
+        → Sent (SendsScript (SendsFor command.now) (W.files world.old).contents (script_of command.now) result) (W.files world.old) (W.files world.new) }
+    ensures complete { IsTrue W.tells_files → IsTaken W.tells_log (W.files world.old) command.now ((W.files world.old).contents (script_of command.now))
+        → EndsUnlessFailed (W.faults world.old) (W.faults world.new) result }
+    ensures log { IsTrue W.tells_log
+        → Called (ReadsAndJudges (Does command.now W.tells_files (W.files world.old)) (script_of command.now) result) (W.log world.old) (W.log world.new) }
 {
     match read_script(alloc, world, command.script()) {
-        Ok(text) => run_text(alloc, world, command, &text),
+        Ok(text) => do_with_text(alloc, world, command, &text),
         Err(error) => script_cause(error),
     }
 }
 
 /// Judges the bytes of a script, and does with it what the command says.
-fn run_text<W: World>(alloc: Global, world: &mut W, command: &Command, text: &[u8]) -> Cause
+fn do_with_text<W: World>(alloc: Global, world: &mut W, command: &Command, text: &[u8]) -> Cause
+    requires options { HasOptions command.now }
     ensures origin { HasOrigin (W.faults world.old) (W.faults world.new) result }
     ensures live { W.live world.new ≡ W.live world.old }
-    ensures files { IsTrue W.tells_files
-        → Sent (Sends (SendsFor command.now (W.files world.old).contents) text.now result) (W.files world.old) (W.files world.new) }
-    ensures log { IsTrue W.tells_log → Logs (Judges (Does command.now) text.now) result (W.log world.old) (W.log world.new) }
+    ensures files { IsTrue W.tells_files → IsNoRun command.now → Sent (Sends (SendsFor command.now) text.now result) (W.files world.old) (W.files world.new) }
+    ensures complete { IsTrue W.tells_files → IsTaken W.tells_log (W.files world.old) command.now text.now
+        → EndsUnlessFailed (W.faults world.old) (W.faults world.new) result }
+    ensures log { IsTrue W.tells_log
+        → Logs (Judges (Does command.now W.tells_files (W.files world.old)) text.now) result (W.log world.old) (W.log world.new) }
 {
     match judge(alloc, text) {
-        Ok(script) => run_script(alloc, world, command, script),
+        Ok(script) => do_with_tree(alloc, world, command, script),
         Err(cause) => cause,
     }
 }
 
 /// Does with a script what the command says.
-fn run_script<W: World>(alloc: Global, world: &mut W, command: &Command, script: Script) -> Cause
-    requires { IsTreeWithin script }
+fn do_with_tree<W: World>(alloc: Global, world: &mut W, command: &Command, script: Script) -> Cause
+    requires within { IsTreeWithin script }
+    requires options { HasOptions command.now }
     ensures origin { HasOrigin (W.faults world.old) (W.faults world.new) result }
     ensures live { W.live world.new ≡ W.live world.old }
-    ensures files { IsTrue W.tells_files → Sent (SendsFor command.now (W.files world.old).contents script result) (W.files world.old) (W.files world.new) }
-    ensures log { IsTrue W.tells_log → Logs (Does command.now script) result (W.log world.old) (W.log world.new) }
+    ensures files { IsTrue W.tells_files → IsNoRun command.now → Sent (SendsFor command.now script result) (W.files world.old) (W.files world.new) }
+    ensures complete { IsTrue W.tells_files → IsTakenTree W.tells_log (W.files world.old) command.now script
+        → EndsUnlessFailed (W.faults world.old) (W.faults world.new) result }
+    ensures log { IsTrue W.tells_log → Logs (Does command.now W.tells_files (W.files world.old) script) result (W.log world.old) (W.log world.new) }
 {
     match command {
-        Command::Run { .. } => run_tree(alloc, world, script),
+        Command::Run { options, .. } => run_tree(alloc, world, script, *options).cause,
         Command::Check { .. } => check_tree(alloc, world, script),
         Command::Show { .. } => show_tree(alloc, world, script),
-    }
-}
-
-/// Finds the types of a script, and runs it where it is of the form.
-fn run_tree<W: World>(alloc: Global, world: &mut W, script: Script) -> Cause
-    ensures origin { HasOrigin (W.faults world.old) (W.faults world.new) result }
-    ensures live { W.live world.new ≡ W.live world.old }
-    ensures files { IsTrue W.tells_files → Sent (FindsTypes (SendsTree (W.files world.old).contents script) script result) (W.files world.old) (W.files world.new) }
-    ensures log { IsTrue W.tells_log → Logs (FindsTypes (RunsTree script) script) result (W.log world.old) (W.log world.new) }
-{
-    match find_types(alloc, script) {
-        Ok(typed) => run_form(alloc, world, typed.script()),
-        Err(cause) => cause,
-    }
-}
-
-/// Runs a script where it is of the form.
-fn run_form<W: World>(alloc: Global, world: &mut W, script: &Script) -> Cause
-    ensures origin { HasOrigin (W.faults world.old) (W.faults world.new) result }
-    ensures live { W.live world.new ≡ W.live world.old }
-    ensures files { IsTrue W.tells_files → Sent (SendsTree (W.files world.old).contents script.now result) (W.files world.old) (W.files world.new) }
-    ensures log { IsTrue W.tells_log → Logs (RunsTree script.now) result (W.log world.old) (W.log world.new) }
-{
-    let Some(Form { name, count }) = form_of(script) else {
-        return Cause::NotBuilt;
-    };
-    match run_take(alloc, world, name, count) {
-        Ok(()) => Cause::Success,
-        Err(error) => run_cause(error),
     }
 }
 
@@ -176,6 +159,6 @@ fn write_answer<W: World>(world: &mut W, answer: Result<String, NoMemory>) -> Ca
     };
     match write_all(world, Stream::Output, text.as_bytes()) {
         Ok(()) => Cause::Success,
-        Err(error) => run_cause(error),
+        Err(error) => text_cause(error),
     }
 }

@@ -4,13 +4,13 @@
 mod arguments;
 mod cause;
 mod command;
-mod form;
 mod judge;
 mod report;
+mod run;
 mod script;
 mod streams;
-mod take;
 
 pub use arguments::{Command, WordsRefusal, read_words};
 pub use cause::Outcome;
 pub use command::conduit_main;
+pub use run::{TextOutcome, run_text};

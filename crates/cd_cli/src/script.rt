@@ -1,18 +1,42 @@
 // Reading the script file.
-ghost use Rattle.std.specs.Prelude.{◌≡◌, ◌≤◌, ℕ, List, Contains, IsTrue, IfOk, length, take};
+ghost use Rattle.std.specs.Prelude.{◌≡◌, ◌≤◌, ℕ, List, Contains, IsTrue, IfOk, length, take, vec_len};
 ghost use Rattle.cd_world.specs.declared.event.Use.TheVariants.{Reading};
 ghost use Rattle.cd_world.specs.Causes.{HasCause};
 ghost use Rattle.cd_world.specs.Live.{IsLive, open_as};
+ghost use Rattle.cd_cli.specs.Cause.{answer_of};
 ghost use Rattle.cd_cli.specs.Judge.{read_limit};
 ghost use Rattle.cd_cli.specs.Script.{Fills, LogsFill, ReadsFront, LogsRead};
 
-use crate::take::{buffer_of, with_closing};
+use cd_elem::NoMemory;
 use cd_script::TEXT_LIMIT;
-use cd_world::{Descriptor, World, WorldError};
+use cd_world::{CloseFailed, Descriptor, World, WorldError};
 use std::alloc::Global;
 
 /// How many bytes of a script are read: one more than a script may have.
 const READ_LIMIT: usize = TEXT_LIMIT + 1;
+
+/// A buffer of this size.
+fn buffer_of(alloc: Global, size: usize) -> Result<Vec<u8>, NoMemory>
+    ensures { IfOk result (λ buffer. vec_len buffer ≡ size) }
+{
+    Ok(vec![in alloc; 0u8; size]?)
+}
+
+/// An answer after the file that it is about was closed: a close that failed is told whatever was answered before it.
+fn with_closing<T: Drop>(
+    answer: Result<T, WorldError>,
+    closing: Result<(), CloseFailed>,
+) -> Result<T, WorldError>
+    ensures { result ≡ answer_of answer closing }
+{
+    match closing {
+        Ok(()) => answer,
+        Err(CloseFailed) => {
+            drop(answer);
+            Err(WorldError::Failed)
+        }
+    }
+}
 
 /// Fills the front of a buffer with what is left of a file, up to the size of the buffer, and says how many bytes
 /// those are.

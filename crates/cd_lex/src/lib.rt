@@ -8,4 +8,5 @@ mod longest_token;
 mod spelling;
 
 pub use lexing::{Lexed, lex};
+pub use longest_token::number_value;
 pub use spelling::push_spaced;

@@ -93,8 +93,9 @@ fn count_digits(text: &[u8]) -> usize
     text.len()
 }
 
+/// The number that decimal digits are. None where it passes 64 bits.
 #[tactic(auto, using(crate::proofs::Digits::numbers))]
-fn number_value(digits: &[u8]) -> Option<u64>
+pub fn number_value(digits: &[u8]) -> Option<u64>
     ensures { result ≡ spec.number_value digits.now }
 {
     let mut value: u64 = 0;

@@ -1,6 +1,7 @@
 -- Each cause with its line, by computation.
 use Rattle.std.specs.Prelude.{◌≡◌, refl, [], codes}
 use Rattle.std.specs.Fmt.{digits}
+use Rattle.cd_elem.specs.declared.fault.Fault.TheVariants as fault
 use Rattle.cd_elem.specs.declared.token.LimitKind.TheVariants as limit
 use Rattle.cd_types.specs.declared.refusal.RefusalKind.TheVariants as kind
 use Rattle.cd_report.specs.declared.cause.Cause.TheVariants as cause
@@ -10,7 +11,7 @@ use Rattle.cd_report.specs.CheckText.{check_text, summary}
 success_is_silent : cause_text cause.Success ≡ []
 success_is_silent = refl
 
-usage : cause_text cause.Usage ≡ codes "conduit: usage: conduit (run SCRIPT | check SCRIPT | show SCRIPT)\n"
+usage : cause_text cause.Usage ≡ codes "conduit: usage: conduit (run [--chunk N] [--limit N] SCRIPT | check SCRIPT | show SCRIPT)\n"
 usage = refl
 
 unread_script : cause_text cause.ScriptFault ≡ codes "conduit: the script could not be read\n"
@@ -70,8 +71,37 @@ spent_key = refl
 not_built : cause_text cause.NotBuilt ≡ codes "conduit: this form is not built yet\n"
 not_built = refl
 
-outside_fault : cause_text cause.OutsideFault ≡ codes "conduit: a file could not be opened, read, written or closed\n"
-outside_fault = refl
+bad_text : cause_text (cause.Decode (fault.BadText 18446744073709551615)) ≡ codes "conduit: bad UTF-8 at offset 18446744073709551615\n"
+unfolding digits
+bad_text = refl
+
+bad_hex : cause_text (cause.Decode (fault.BadHex 0)) ≡ codes "conduit: bad base16 at offset 0\n"
+unfolding digits
+bad_hex = refl
+
+bad_base64 : cause_text (cause.Decode (fault.BadBase64 4)) ≡ codes "conduit: bad base64 at offset 4\n"
+unfolding digits
+bad_base64 = refl
+
+open_failed : cause_text (cause.AcquireFault (record { 0 = 1 })) ≡ codes "conduit: open failed at site 1\n"
+unfolding digits
+open_failed = refl
+
+read_failed : cause_text (cause.ReadFault (record { 0 = 128 })) ≡ codes "conduit: read failed at site 128\n"
+unfolding digits
+read_failed = refl
+
+write_failed : cause_text (cause.WriteFault (record { 0 = 0 })) ≡ codes "conduit: write failed at site 0\n"
+unfolding digits
+write_failed = refl
+
+close_failed : cause_text (cause.CloseFault (record { 0 = 12 })) ≡ codes "conduit: close failed at site 12\n"
+unfolding digits
+close_failed = refl
+
+long_source : cause_text (cause.TooLong (record { 0 = 2 })) ≡ codes "conduit: site 2 is longer than the limit\n"
+unfolding digits
+long_source = refl
 
 no_memory : cause_text cause.NoMemory ≡ codes "conduit: out of memory\n"
 no_memory = refl

@@ -2,11 +2,11 @@
 ghost use Rattle.std.specs.Prelude.{◌≡◌};
 ghost use Rattle.cd_report.specs.Cause.{status_of};
 
-use cd_elem::LimitKind;
+use cd_elem::{Fault, LimitKind, Site};
 use cd_types::Refusal;
 
 /// Why the command ended.
-#[derive(Clone, Copy, Debug, PartialEq, Eq)]
+#[derive(Clone, Copy, PartialEq, Eq)]
 pub enum Cause {
     /// The script ran to its end, and no call on the outside failed.
     Success,
@@ -26,8 +26,18 @@ pub enum Cause {
     Refused(Refusal),
     /// The script is of a form that does not run yet.
     NotBuilt,
-    /// A call on the outside failed, after the script was closed.
-    OutsideFault,
+    /// A decoder refused its input.
+    Decode(Fault),
+    /// The file of a site could not be opened.
+    AcquireFault { site: Site },
+    /// A read of a site failed.
+    ReadFault { site: Site },
+    /// A write of a site failed. Site 0 is where results, and the texts of `show` and `check`, are printed.
+    WriteFault { site: Site },
+    /// A close of a site's file failed. The file is closed all the same.
+    CloseFault { site: Site },
+    /// A source has more bytes than the limit.
+    TooLong { site: Site },
     /// There was no memory for some step.
     NoMemory,
 }
@@ -46,7 +56,12 @@ impl Cause {
             | Cause::Syntax { .. }
             | Cause::Limit { .. } => 4,
             Cause::Refused(_) => 5,
-            Cause::OutsideFault => 7,
+            Cause::Decode(_) => 6,
+            Cause::AcquireFault { .. }
+            | Cause::ReadFault { .. }
+            | Cause::WriteFault { .. }
+            | Cause::CloseFault { .. } => 7,
+            Cause::TooLong { .. } => 8,
             Cause::NoMemory => 9,
             Cause::NotBuilt => 10,
         }

@@ -4,12 +4,13 @@ ghost use Rattle.cd_report.specs.declared.cause.Cause.TheVariants.{NoMemory as M
 ghost use Rattle.cd_report.specs.CauseText as spec;
 
 use crate::cause::Cause;
-use cd_elem::{LimitKind, NoMemory};
+use cd_elem::{Fault, LimitKind, NoMemory, Site};
 use cd_types::{Refusal, RefusalKind};
 use std::alloc::Global;
 
 /// The commands and their words, as they are now.
-const USAGE: &str = "usage: conduit (run SCRIPT | check SCRIPT | show SCRIPT)";
+const USAGE: &str =
+    "usage: conduit (run [--chunk N] [--limit N] SCRIPT | check SCRIPT | show SCRIPT)";
 
 /// The line that tells a cause on standard error, with its newline. Success has none: its text is empty, and takes no
 /// memory.
@@ -27,7 +28,12 @@ pub fn cause_text(alloc: Global, cause: Cause) -> Result<String, NoMemory>
         Cause::Limit { which, at } => line_at(alloc, limit_passed(which), at),
         Cause::Refused(refusal) => refusal_line(alloc, refusal),
         Cause::NotBuilt => line(alloc, "this form is not built yet"),
-        Cause::OutsideFault => line(alloc, "a file could not be opened, read, written or closed"),
+        Cause::Decode(fault) => fault_line(alloc, fault),
+        Cause::AcquireFault { site } => failed_line(alloc, "open", site),
+        Cause::ReadFault { site } => failed_line(alloc, "read", site),
+        Cause::WriteFault { site } => failed_line(alloc, "write", site),
+        Cause::CloseFault { site } => failed_line(alloc, "close", site),
+        Cause::TooLong { site } => long_line(alloc, site),
         Cause::NoMemory => line(alloc, "out of memory"),
     }
 }
@@ -51,6 +57,38 @@ fn line_at(alloc: Global, what: &str, at: u32) -> Result<String, NoMemory>
     ensures { IfOk result (λ text. string_bytes text ≡ spec.line_at what.now at) }
 {
     Ok(format!(in alloc; "conduit: {what} at byte {at}\n")?)
+}
+
+/// The line of a fault of a decoder.
+fn fault_line(alloc: Global, fault: Fault) -> Result<String, NoMemory>
+    ensures { IfOk result (λ text. string_bytes text ≡ spec.fault_line fault) }
+{
+    match fault {
+        Fault::BadText { at } => bad_line(alloc, "UTF-8", at),
+        Fault::BadHex { at } => bad_line(alloc, "base16", at),
+        Fault::BadBase64 { at } => bad_line(alloc, "base64", at),
+    }
+}
+
+/// The line of an input that is not in this encoding.
+fn bad_line(alloc: Global, encoding: &str, at: u64) -> Result<String, NoMemory>
+    ensures { IfOk result (λ text. string_bytes text ≡ spec.bad_line encoding.now at) }
+{
+    Ok(format!(in alloc; "conduit: bad {encoding} at offset {at}\n")?)
+}
+
+/// The line of a call on a site's file that failed.
+fn failed_line(alloc: Global, call: &str, site: Site) -> Result<String, NoMemory>
+    ensures { IfOk result (λ text. string_bytes text ≡ spec.failed_line call.now site) }
+{
+    Ok(format!(in alloc; "conduit: {call} failed at site {}\n", site.0)?)
+}
+
+/// The line of a source that has more bytes than the limit.
+fn long_line(alloc: Global, site: Site) -> Result<String, NoMemory>
+    ensures { IfOk result (λ text. string_bytes text ≡ spec.long_line site) }
+{
+    Ok(format!(in alloc; "conduit: site {} is longer than the limit\n", site.0)?)
 }
 
 fn limit_passed(which: LimitKind) -> &'static str

@@ -11,7 +11,7 @@ returns-clause-origin g c = record {
 }
 
 pub returns-clause-files : goal.returns-clause-files
-returns-clause-files g c = λ tells. sent_and_told _ _ _ _ _ _ (c.answer_words-cause.ensures.files tells) (c.report-said.ensures.files tells)
+returns-clause-files g c = λ tells shows. sent_and_told _ _ _ _ _ _ (c.answer_words-cause.ensures.files tells shows) (c.report-said.ensures.files tells)
 
 pub returns-clause-complete : goal.returns-clause-complete
 returns-clause-complete g c = λ tells. (g.W.World.faults c.answer_words-cause.new.world, c.report-said.ensures.count, c.answer_words-cause.ensures.complete tells)
