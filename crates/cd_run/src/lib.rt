@@ -22,6 +22,7 @@ pub use ending::{Ended, finish};
 pub use fault::RunFault;
 pub use node::StatementNode;
 pub use options::Options;
+pub use print::print_value;
 pub use read::read_site;
 pub use runner::Runner;
 pub use script::run_script;

@@ -2,7 +2,7 @@
 use Rattle.std.proofs.Common.{◌≡◌, ◌≤◌, ℕ, List, [], ◌∷◌, map, refl, sym, subst, arith}
 use Rattle.cd_meaning.specs.Opens.{openings_in}
 use Rattle.cd_meaning.specs.Run.{Stamp, start, Run, effects, outs_at}
-use Rattle.cd_meaning.specs.RunShapes.{Mark, AtEnd, MayGoOn, Broken, TooLong, Told, Seen}
+use Rattle.cd_meaning.specs.RunShapes.{Mark, AtEnd, MayGoOn, Broken, TooLong, Told}
 use Rattle.cd_meaning.specs.Sources.{source_end}
 use Rattle.cd_meaning.specs.Stream.{Elem, Ended, Item}
 use Rattle.cd_node.specs.Ports.{closing_acts}

@@ -1,5 +1,5 @@
 -- What a scope over a world in memory has open.
-use Rattle.std.proofs.Common.{◌≡◌, ℕ, List, [], ◌∷◌, ◌++◌, map, sym, ap, ◌∙◌, subst}
+use Rattle.std.proofs.Common.{◌≡◌, ℕ, List, [], ◌++◌, map, sym, ap, ◌∙◌, subst}
 use Rattle.std.proofs.lemmas.List.{append-nil}
 use Rattle.cd_meaning.specs.Places.{Place}
 use Rattle.cd_world.specs.declared.memory.MemoryWorld.{MemoryWorld}

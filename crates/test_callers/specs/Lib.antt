@@ -1,3 +1,4 @@
 pub mod Given
 pub mod Leaves
 pub mod Placed
+pub mod Trees

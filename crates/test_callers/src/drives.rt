@@ -1,12 +1,12 @@
 // A word with a site as a statement, driven over a world in memory.
 use crate::leaf_runs::{Leaf, LeafWord, use_of};
 use crate::lines::StepError;
-use crate::sites::site_of;
-use cd_elem::{CHUNK_LIMIT, Items, Literal, NoMemory};
+use crate::sites::{Member, site_of, world_of};
+use cd_elem::CHUNK_LIMIT;
 use cd_node::sound_leaves;
 use cd_run::{Ended, finish, run_node};
 use cd_scope::Scope;
-use cd_world::{Event, Fail, MemoryFile, MemoryFiles, MemoryWorld};
+use cd_world::{Event, Fail, MemoryWorld};
 use std::alloc::Global;
 
 /// How a run ended, and a line for each call on the outside.
@@ -14,24 +14,6 @@ use std::alloc::Global;
 pub struct Driven {
     pub ended: Ended,
     pub calls: String,
-}
-
-/// The file `f` with these bytes, of which one call may fail.
-fn world_with(alloc: Global, held: &str, failing: Option<Fail>) -> Result<MemoryWorld, NoMemory> {
-    let mut fails = Items::new(alloc);
-    if let Some(fail) = failing {
-        fails.push(fail).map_err(|_| NoMemory)?;
-    }
-    let file = MemoryFile {
-        name: Literal::new(alloc, "f")?,
-        bytes: Items::from_slice(alloc, held.as_bytes())?,
-        read_cuts: Items::new(alloc),
-        write_cuts: Items::new(alloc),
-        fails,
-    };
-    let mut files: MemoryFiles = Items::new(alloc);
-    files.push(file).map_err(|_| NoMemory)?;
-    MemoryWorld::new(alloc, files)
 }
 
 fn push_event(text: &mut String, event: &Event) -> Result<(), StepError> {
@@ -57,7 +39,8 @@ fn push_event(text: &mut String, event: &Event) -> Result<(), StepError> {
     Ok(())
 }
 
-fn calls_of(alloc: Global, world: &MemoryWorld) -> Result<String, StepError> {
+/// A line for each call so far.
+pub fn calls_of(alloc: Global, world: &MemoryWorld) -> Result<String, StepError> {
     let mut text = String::from_str(alloc, "\n")?;
     for event in world.log().as_slice() {
         push_event(&mut text, event)?;
@@ -78,7 +61,13 @@ pub fn drive(
     if size == 0 || size > CHUNK_LIMIT || limit == u64::MAX {
         return Err(StepError::OutOfTurn);
     }
-    let mut world = world_with(alloc, held, failing)?;
+    let member = Member {
+        name: "f",
+        bytes: held,
+        cuts: &[],
+        failing,
+    };
+    let mut world = world_of(alloc, &[member])?;
     let sites = [site_of(alloc, use_of(word), "f")?];
     let mut left = [limit + 1, limit + 1];
     let mut scope = Scope::new(alloc, 1)?;

@@ -13,14 +13,15 @@ ghost use Rattle.cd_node.specs.declared.protocol.NodeInput.TheVariants as given;
 ghost use Rattle.test_callers.specs.Leaves.{AnswersMove, IsInputHeld, IsOnBytes, MayAnswer, leaf_fits, leaf_stands, seen_leaf, word_use};
 
 use crate::given::{Coming, Given};
-use crate::lines::{StepError, push_back, push_chunk, push_value};
-use crate::sites::{file_of, site_of};
-use cd_elem::{Chunk, Items, NoMemory, Site};
+use crate::lines::StepError;
+use crate::node_lines::{push_given, push_made};
+use crate::sites::{Member, site_of, world_of};
+use cd_elem::{Chunk, NoMemory, Site};
 use cd_node::{NodeInput, NodeMove, Sink, Source, held_tickets};
 use cd_run::StatementNode;
 use cd_scope::{AcquireError, Finished, Scope};
 use cd_typed::{SiteInfo, SiteUse};
-use cd_world::{Descriptor, Fail, MemoryFiles, MemoryWorld};
+use cd_world::{Fail, MemoryWorld};
 use std::alloc::Global;
 
 /// More steps than any row has.
@@ -173,75 +174,8 @@ fn respond(
     }
 }
 
-fn push_given(text: &mut String, input: &NodeInput) -> Result<(), StepError> {
-    match input {
-        NodeInput::Start => text.push_str("start = ")?,
-        NodeInput::Chunk(chunk) | NodeInput::Gave(chunk) => {
-            push_chunk(text, chunk)?;
-            text.push_str(" = ")?;
-        }
-        NodeInput::End | NodeInput::GaveEnd => text.push_str("end = ")?,
-        NodeInput::Next => text.push_str("next = ")?,
-        NodeInput::Acquired(_) => text.push_str("acquired = ")?,
-        NodeInput::Wrote => text.push_str("wrote = ")?,
-        NodeInput::Closed => text.push_str("closed = ")?,
-    }
-    Ok(())
-}
-
-fn push_number(text: &mut String, number: u64) -> Result<(), StepError> {
-    write!(text, "{number}").map_err(|_| StepError::NoMemory)
-}
-
-fn push_site(text: &mut String, name: &str, site: Site) -> Result<(), StepError> {
-    text.push_str(name)?;
-    push_number(text, u64::from(site.0))
-}
-
-fn push_reached(
-    text: &mut String,
-    name: &str,
-    site: Site,
-    descriptor: Descriptor,
-) -> Result<(), StepError> {
-    push_site(text, name, site)?;
-    text.push_str(" at ")?;
-    push_number(text, descriptor.0)
-}
-
-fn push_made(text: &mut String, made: &NodeMove) -> Result<(), StepError> {
-    match made {
-        NodeMove::Emit(chunk) => {
-            text.push_str("emit ")?;
-            push_chunk(text, chunk)?;
-        }
-        NodeMove::Need => text.push_str("need")?,
-        NodeMove::Acquire(site) => push_site(text, "acquire ", *site)?,
-        NodeMove::Read { site, descriptor } => push_reached(text, "read ", *site, *descriptor)?,
-        NodeMove::Write {
-            site,
-            descriptor,
-            chunk,
-        } => {
-            push_reached(text, "write ", *site, *descriptor)?;
-            text.push_str(" ")?;
-            push_chunk(text, chunk)?;
-        }
-        NodeMove::Release(ticket) => push_site(text, "release ", ticket.site())?,
-        NodeMove::Done { value, rest } => {
-            text.push_str("done ")?;
-            push_value(text, value)?;
-            text.push_str(", ")?;
-            return push_back(text, rest);
-        }
-        NodeMove::Fault(_) => text.push_str("fault")?,
-    }
-    text.push_str("\n")?;
-    Ok(())
-}
-
 /// Leaves the ticket of an input that is not taken.
-fn give_up(input: NodeInput, scope: &mut Scope)
+pub fn give_up(input: NodeInput, scope: &mut Scope)
     requires { IsInputHeld (held_in scope.old) input }
     ensures { scope.new ≡ scope.old }
 {
@@ -301,14 +235,6 @@ fn step_all(
     Err(StepError::Unending)
 }
 
-/// The file `f`, of which one call may fail.
-fn world_of(alloc: Global, failing: Option<Fail>) -> Result<MemoryWorld, NoMemory> {
-    let mut files: MemoryFiles = Items::new(alloc);
-    let file = file_of(alloc, "f", failing)?;
-    files.push(file).map_err(|_| NoMemory)?;
-    MemoryWorld::new(alloc, files)
-}
-
 pub fn use_of(word: LeafWord) -> SiteUse
     ensures { result ≡ word_use word }
 {
@@ -327,7 +253,13 @@ pub fn run_leaf(
     failing: Option<Fail>,
     coming: Given<'_>,
 ) -> Result<LeafRun, StepError> {
-    let mut world = world_of(alloc, failing)?;
+    let member = Member {
+        name: "f",
+        bytes: "",
+        cuts: &[],
+        failing,
+    };
+    let mut world = world_of(alloc, &[member])?;
     let info = site_of(alloc, use_of(word), "f")?;
     let mut text = String::from_str(alloc, "\n")?;
     let mut scope = Scope::new(alloc, MOST)?;

@@ -20,6 +20,9 @@ pub enum StepError {
     Refused,
     #[error("too many steps")]
     Unending,
+    /// A text is no script that runs a tree of these words.
+    #[error("no such tree")]
+    NoTree,
 }
 
 impl From<NoMemory> for StepError {

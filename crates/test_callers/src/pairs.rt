@@ -57,7 +57,7 @@ fn may_take(stand: Stand, input: &Input) -> bool
 }
 
 /// Whether it is one of the words of the rows, each of which has a type on bytes.
-fn reads_bytes(word: ElemWord) -> bool
+pub fn reads_bytes(word: ElemWord) -> bool
     ensures { IsTrue result → HasType word sort.Bytes }
 {
     matches!(

@@ -110,8 +110,8 @@ closed
     ];
     for row in rows {
         let driven = drive(rt.alloc(), row.word, "abc", row.failing, 2, row.limit)?;
-        assert_eq!(rt; driven.calls.as_str(), row.calls);
         assert!(rt; driven.ended.answer.err() == row.fault);
+        assert_eq!(rt; driven.calls.as_str(), row.calls);
     }
     Ok(())
 }

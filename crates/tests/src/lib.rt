@@ -4,9 +4,13 @@
 #[cfg(test)]
 mod back;
 #[cfg(test)]
+mod deep;
+#[cfg(test)]
 mod driven;
 #[cfg(test)]
 mod fuse;
+#[cfg(test)]
+mod given_up;
 #[cfg(test)]
 mod leaves;
 #[cfg(test)]
@@ -14,8 +18,12 @@ mod marks;
 #[cfg(test)]
 mod readers;
 #[cfg(test)]
+mod rests;
+#[cfg(test)]
 mod scope;
 #[cfg(test)]
 mod tokens;
+#[cfg(test)]
+mod trees;
 #[cfg(test)]
 mod values;

@@ -1,4 +1,4 @@
-use Rattle.std.proofs.Common.{◌≤◌, ℕ, [], ◌∷◌, map, sym, subst}
+use Rattle.std.proofs.Common.{◌≤◌, ℕ, [], ◌∷◌, sym, subst}
 use Rattle.cd_meaning.specs.Opens.{openings_in}
 use Rattle.cd_meaning.specs.Places.{Place}
 use Rattle.cd_meaning.specs.Run.{effects}

@@ -1,4 +1,4 @@
-use Rattle.std.proofs.Common.{◌≡◌, List, subst, sym, arith, Result, Ok, Option, Some, None, IfOk}
+use Rattle.std.proofs.Common.{subst, sym, arith, Result, Ok, Option, IfOk}
 use Rattle.cd_elem.specs.declared.no_memory.NoMemory.{NoMemory}
 use Rattle.cd_typed.specs.Sites.{place_of}
 use Rattle.cd_scope.specs.declared.scope.Scope.{Scope}

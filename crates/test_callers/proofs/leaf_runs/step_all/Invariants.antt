@@ -1,4 +1,4 @@
-use Rattle.std.proofs.Common.{◌≤◌, ◌+◌, ◌⊎◌, ℕ, List, None, Some}
+use Rattle.std.proofs.Common.{◌≤◌, ◌+◌, List}
 use Rattle.cd_typed.specs.Sites.{place_of}
 use Rattle.cd_world.specs.Live.{Open}
 use Rattle.cd_world.specs.Memory.{live_in}
