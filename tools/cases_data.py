@@ -3,7 +3,7 @@
 
 usage: tools/cases_data.py [--check]
 
-Writes crates/cases/data/texts, words, types and commands, and crates/cases/stdout, where each case stands again with the
+Writes crates/cases/data/texts, words, types, commands and runs, and crates/cases/stdout, where each case stands again with the
 answers that are expected. With --check nothing is written: the files that are not as they would be are named, and the
 status is 1 where there are some.
 """
@@ -351,13 +351,155 @@ def script_runs():
                 yield run_case(f"script {case['seed']}, run {number + 1}", ["run", "s"], *found, 0)
 
 
+# ---- rows: what a pipeline calls, and what is left where one of its calls fails
+
+class Stopped(Exception):
+    """A run that has stopped, with its cause."""
+
+
+class Model:
+    """The calls of a row's acts, over reads and writes of at most `cut` bytes, of which those of `fails` fail.
+
+    The acts say what is asked for and in which order; which calls these are is worked out here.
+    """
+
+    def __init__(self, row, cut, fails):
+        self.row, self.cut, self.fails, self.names = row, cut or 1 << 20, fails, ["<stdout>", *row["sites"]]
+        self.limit = int(row["words"][2]) if "--limit" in row["words"] else None
+        self.counts, self.calls, self.journal, self.standing, self.out = {}, [], [], [], ""
+        self.read, self.given, self.ended = {}, {}, set()
+
+    def fail(self, sort, site):
+        """Counts a call, and tells whether it is one that fails."""
+        name = self.names[site]
+        key = sort, name, self.counts.get((sort, name), 0) + 1
+        self.counts[sort, name] = key[2]
+        failed = list(key) in self.fails or sort == "open" and name not in self.row["files"]
+        if failed:
+            self.calls.append(f"{sort} failed")
+        return failed
+
+    def acquire(self, call, site):
+        if self.fail("open", site):
+            raise Stopped(["AcquireFault", site])
+        self.calls.append(f"{call} {self.names[site]}")
+        self.journal.append(f"open {site}")
+        self.standing.append(site)
+
+    def close(self, site, when):
+        self.standing.remove(site)
+        failed = self.fail("close", site)
+        self.calls += [] if failed else ["close"]
+        self.journal.append(f"close {site} {when}" + (" failed" if failed else ""))
+        if failed:
+            raise Stopped(["CloseFault", site])
+
+    def put(self, site, text):
+        while text:
+            if self.fail("write", site):
+                raise Stopped(["WriteFault", site])
+            self.out += text[:self.cut]
+            text = text[self.cut:]
+
+    def ask(self, site):
+        """One read: some bytes, which are kept, or the end, at which the file is closed."""
+        given = self.given.get(site, 0)
+        most = min(self.cut, 1 if given == self.limit else (self.limit or 1 << 20) - given)
+        if self.fail("read", site):
+            raise Stopped(["ReadFault", site])
+        got = self.row["files"][self.names[site]][given:given + most]
+        if not got:
+            self.calls.append("end")
+            self.ended.add(site)
+            self.close(site, "early")
+        elif given == self.limit:
+            raise Stopped(["TooLong", site])
+        self.read[site], self.given[site] = got, given + len(got)
+
+    def take(self, site, count, to):
+        """Takes so many bytes, or all; those that were read are passed on before the next read."""
+        left = 1 << 20 if count is None else count
+        while left and site not in self.ended:
+            if not self.read.get(site):
+                self.ask(site)
+            part, self.read[site] = self.read[site][:left], self.read[site][left:]
+            left -= len(part)
+            if to is not None:
+                self.put(to, part)
+
+    def act(self, act, *told):
+        if act in ("open", "mark"):
+            self.acquire(act, *told)
+        elif act == "close":
+            self.close(*told, "early")
+        else:
+            getattr(self, act)(*told)
+
+    def answer(self):
+        """The row with what comes of it; all that stands is closed at the end, the last that was opened first."""
+        cause = None
+        try:
+            for act in self.row["acts"]:
+                self.act(*act)
+        except Stopped as stopped:
+            cause = stopped.args[0]
+        for site in reversed(self.standing[:]):
+            try:
+                self.close(site, "end")
+            except Stopped as stopped:
+                cause = cause or stopped.args[0]
+        cause = cause or ["Success"]
+        status = {"Success": 0, "TooLong": 8}.get(cause[0], 7)
+        calls = ["open s", "end", "close", *self.calls]
+        return {"cause": cause, "status": status, "calls": calls, "out": self.out, "journal": self.journal}
+
+
+def row_variants(row):
+    """A row under each cut, and where it names no call that fails, under each with every call failing in turn."""
+    given = row.get("fails", [])
+    for cut in row.get("cuts", (0, 1, 2, 3)):
+        model = Model(row, cut, given)
+        answer = model.answer()
+        if any(answer[key] != row[key] for key in answer):
+            sys.exit(f"{row['title']}, cut by {cut}: {answer} is not what the row has")
+        yield row["title"], cut, given, answer
+        for (sort, name), count in [] if given else model.counts.items():
+            for number in range(1, count + 1):
+                if sort == "open" and name not in row["files"]:
+                    continue
+                fails = [[sort, name, number]]
+                yield f"{row['title']}; {sort} {number} of {name} fails", cut, fails, Model(row, cut, fails).answer()
+
+
+def row_cases():
+    for row in rows("rows.jsonl"):
+        variants = row_variants(row) if "acts" in row else [(row["title"], 0, [], row)]
+        for title, cut, fails, answer in variants:
+            title += f", cut by {cut}" if cut else ""
+            yield command_case(title, row["words"], row["files"], answers_of(answer), cut, fails)
+
+
+def row_runs():
+    """The rows with their journals: under each cut where no call fails, and not cut where one does."""
+    for row in rows("rows.jsonl"):
+        for title, cut, fails, answer in row_variants(row) if "acts" in row else []:
+            if cut and fails and fails != row.get("fails"):
+                continue
+            title += f", cut by {cut}" if cut else ""
+            after = {"<stdout>": list(answer["out"].encode())}
+            yield run_case(title, row["words"], row["files"], fails, answer["cause"], answer["status"], answer["journal"], after, cut)
+
+
 # ---- the files
 
 def files():
     """Each file and what it holds."""
     told = []
-    for name, cases in (("texts", text_cases()), ("words", word_cases()), ("types", type_cases()), ("commands", command_cases()), ("runs", [*outside_runs(), *script_runs()])):
-        cases = list(cases)
+    tables = {
+        "texts": [*text_cases()], "words": [*word_cases()], "types": [*type_cases()],
+        "commands": [*command_cases(), *row_cases()], "runs": [*outside_runs(), *script_runs(), *row_runs()],
+    }
+    for name, cases in tables.items():
         yield PROGRAM / "data" / name, "".join("\n".join(lines) + "\n\n" for lines, _ in cases)[:-1]
         told += ["\n".join(lines + answers) + "\n\n" for lines, answers in cases]
     yield PROGRAM / "stdout", "".join(told)
