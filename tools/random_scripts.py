@@ -3,13 +3,14 @@
 
 usage: tools/random_scripts.py [COUNT [SEED]]
 
-Draws COUNT scripts of built forms, 200,000 if not given, from SEED, 1 if not given. Each is run by the program `cases` over
-files in memory with reads and writes that are cut into 1, 2 and 3 bytes and not at all, and must end with the same
-status and cause, leave the same files, and have the same journal. The last line says how many there were of each status;
-the status of this program is 1 where a script came out differently.
+Draws COUNT scripts of built forms, 200,000 if not given, from SEED, 1 if not given. Each is run by the
+program `cases` over files in memory with reads and writes that are cut into 1, 2 and 3 bytes and not at all, and must end
+with the same status and cause, leave the same files, and have the same journal. The line before the last says how many
+there were of each status; the status of this program is 1 where a script came out differently.
 """
 
 import random
+import re
 import subprocess
 import sys
 import tempfile
@@ -61,12 +62,12 @@ class Script:
         return self.draw.choice([f"takeE {count}", f"dropE {count}", f"takeWhileE {kind}", f"dropWhileE {kind}"])
 
     def map(self, depth):
-        """What makes bytes of bytes."""
+        """What makes bytes of bytes. What only drops them gives none that a word could stand on."""
         if depth and self.draw.randrange(4) == 0:
             return "{ " + "; ".join([*(self.exact() for _ in range(self.draw.randrange(3))), self.map(depth - 1)]) + " }"
         return self.draw.choice([
-            "passE", self.exact(), f"filterE {self.draw.choice(CLASSES)}", f"mapE {self.draw.choice(MAPS)}",
-            f"repeatE {self.draw.randrange(4)}",
+            "passE", f"takeE {self.draw.randrange(8)}", f"takeWhileE {self.draw.choice(CLASSES)}",
+            f"filterE {self.draw.choice(CLASSES)}", f"mapE {self.draw.choice(MAPS)}", f"repeatE {self.draw.randrange(4)}",
         ])
 
     def sink(self, depth):
@@ -108,7 +109,7 @@ def case_of(number, draw):
     text = Script(draw).text()
     words = ["run", *draw.choice(([], [], ["--chunk", str(draw.randrange(1, 9))], ["--limit", str(draw.randrange(1, 40))])), "s"]
     files = {"s": text} | {name: held(draw) for name in "abcd"} | {"<stdin>": held(draw), "<stdout>": ""}
-    shown = ["<stdout>", *(name.split('"')[1] for name in text.split("sinkFile ")[1:]), *(f"m{n}" for n in range(1, 9))]
+    shown = ["<stdout>", *re.findall(r'(?:sinkFile|mark) "(\w+)"', text)]
     for cut in CUTS:
         lines = [f"case {number}, cut by {cut}", *(f"word {word}" for word in words)]
         lines += [f"cut {cut}"] if cut else []
