@@ -200,6 +200,11 @@ read_from e st l c m f t g h =
     (goes_counted m (part_at e.stand) (grade_of e.sort) (gives_of e.state e.sort) takes room _ n (scan_rest w false (carried e) (items c)) (seen_stage f)
     (subst (λ x. Goes m (part_of (part_at e.stand) (grade_of e.sort) x takes room (held_of (with_chunk c (record e { state = st; list = l }))) (scan_rest w false (carried e) (items c))) (seen_stage f)) g h))
 
+-- the chunk that was read passes on whole
+pub whole_stage : (e : ElemStage) (st : WordState) (c : Chunk) (len : ℕ) → IsTrue (is_cut e.sort) → e.told ≡ false → e.keep ≡ None → c.0 ≡ e.sort → len ≡ length c.1 → HasSize c.0 len → gives_of st e.sort ≡ gives_of e.state e.sort
+    → IsPlan e.sort (carried e) c.1 (plan.Pass len) (Doing st (gathered e.list)) → Went (with_chunk c e) (Emit c) (record e { stand = Gave; state = st })
+whole_stage e st c len h t k i l z g p = read_from e st e.list c (Emit c) (record e { stand = Gave; state = st }) t g (pass_whole (record e { state = st }) (carried e) c len len h t k i l z refl p)
+
 one_silent : (k : Sort) (c : Chunk) (l : List ℕ) → IsSilent (word_scan k) (Doing state.SinkNull l) (items c) (Doing state.SinkNull l)
 one_silent k c l = all_silent (items c) where
   all_silent : (xs : List Item) → IsSilent (word_scan k) (Doing state.SinkNull l) xs (Doing state.SinkNull l)

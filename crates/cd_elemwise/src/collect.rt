@@ -46,6 +46,7 @@ pub fn collected(alloc: Global, list: &mut Gathered) -> Value
 }
 
 /// What a word does that keeps as many elements as are left of its number, and how many are left then.
+#[inline(never)]
 pub fn collect(
     alloc: Global,
     list: &mut Gathered,

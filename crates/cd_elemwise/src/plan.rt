@@ -43,6 +43,7 @@ fn take(left: u64, chunk: &Chunk) -> (u64, ChunkPlan)
     }
 }
 
+#[inline(never)]
 fn take_while(class: Class, chunk: &Chunk) -> ChunkPlan
     requires { IsTrue (is_cut chunk.now.0) }
     ensures { (l : List ℕ) → IsPlan chunk.now.0 (Doing (state.TakeWhile class) l) chunk.now.1 result (Doing (state.TakeWhile class) l) }
@@ -56,6 +57,7 @@ fn take_while(class: Class, chunk: &Chunk) -> ChunkPlan
     }
 }
 
+#[inline(never)]
 fn filter(alloc: Global, class: Class, chunk: &Chunk) -> Result<ChunkPlan, NoMemory>
     requires { IsTrue (is_cut chunk.now.0) }
     ensures { IfOk result (λ plan. (l : List ℕ) → IsPlan chunk.now.0 (Doing (state.Filter class) l) chunk.now.1 plan (Doing (state.Filter class) l)) }
@@ -67,6 +69,7 @@ fn filter(alloc: Global, class: Class, chunk: &Chunk) -> Result<ChunkPlan, NoMem
     }
 }
 
+#[inline(never)]
 fn map(alloc: Global, by: ByteMap, chunk: &Chunk) -> Result<ChunkPlan, NoMemory>
     requires { MapFits by chunk.now.0 }
     ensures { IfOk result (λ plan. (l : List ℕ) → IsPlan chunk.now.0 (Doing (state.Map by) l) chunk.now.1 plan (Doing (state.Map by) l)) }
@@ -84,6 +87,7 @@ fn fitting(times: u64, len: usize) -> usize
     len.min(CHUNK_LIMIT / times as usize)
 }
 
+#[inline(never)]
 fn repeat(alloc: Global, times: u64, chunk: &Chunk) -> Result<ChunkPlan, NoMemory>
     requires cut { IsTrue (is_cut chunk.now.0) }
     requires most { times ≤ repeat_limit }
@@ -111,6 +115,7 @@ fn drop(left: u64, chunk: &Chunk) -> (u64, ChunkPlan)
     }
 }
 
+#[inline(never)]
 fn drop_while(class: Class, chunk: &Chunk) -> ChunkPlan
     requires { IsTrue (is_cut chunk.now.0) }
     ensures { (l : List ℕ) → IsPlan chunk.now.0 (Doing (state.DropWhile class) l) chunk.now.1 result (Doing (state.DropWhile class) l) }
@@ -123,6 +128,7 @@ fn drop_while(class: Class, chunk: &Chunk) -> ChunkPlan
     }
 }
 
+#[inline(never)]
 fn all(class: Class, answer: bool, chunk: &Chunk) -> ChunkPlan
     requires { IsTrue (is_cut chunk.now.0) }
     ensures { (l : List ℕ) → IsPlan chunk.now.0 (Doing (state.All class answer) l) chunk.now.1 result (Doing (state.All class answer) l) }
@@ -137,6 +143,7 @@ fn all(class: Class, answer: bool, chunk: &Chunk) -> ChunkPlan
 
 // ---- words of the first element
 
+#[inline(never)]
 fn head(alloc: Global, chunk: &Chunk) -> Result<ChunkPlan, NoMemory>
     requires cut { IsTrue (is_cut chunk.now.0) }
     requires some { 0 < length chunk.now.1 }
@@ -146,6 +153,7 @@ fn head(alloc: Global, chunk: &Chunk) -> Result<ChunkPlan, NoMemory>
     Ok(ChunkPlan::End(value, 1))
 }
 
+#[inline(never)]
 fn peek(alloc: Global, chunk: &Chunk) -> Result<ChunkPlan, NoMemory>
     requires cut { IsTrue (is_cut chunk.now.0) }
     requires some { 0 < length chunk.now.1 }
@@ -156,6 +164,7 @@ fn peek(alloc: Global, chunk: &Chunk) -> Result<ChunkPlan, NoMemory>
 }
 
 /// What a word does that keeps no list, with a chunk of a cut stream, and what it then carries.
+#[inline(never)]
 pub fn planned(
     alloc: Global,
     state: WordState,

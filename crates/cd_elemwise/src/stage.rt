@@ -75,6 +75,8 @@ impl ElemStage {
     }
 
     /// It ends with its value, and gives nothing back.
+    #[cold]
+    #[inline(never)]
     fn finish(&mut self, alloc: Global) -> Result<Move, NoMemory>
         requires listed { StateFits self.old.state self.old.sort (list_sort self.old.list) }
         requires within { KeepsBounds self.old }
@@ -113,6 +115,7 @@ impl ElemStage {
     }
 
     /// It does with its chunk what was planned.
+    #[inline(never)]
     fn act(&mut self, alloc: Global, mut chunk: Chunk, plan: ChunkPlan) -> Result<Move, NoMemory>
         requires told { self.old.told ≡ false }
         requires keep { self.old.keep ≡ None }
@@ -160,8 +163,9 @@ impl ElemStage {
         }
     }
 
-    /// A step with a chunk.
-    fn read(&mut self, alloc: Global, chunk: Chunk) -> Result<Move, NoMemory>
+    /// A step with a chunk, by the plan of its word.
+    #[inline(never)]
+    fn read_planned(&mut self, alloc: Global, chunk: Chunk) -> Result<Move, NoMemory>
         requires told { self.old.told ≡ false }
         requires keep { self.old.keep ≡ None }
         requires listed { StateFits self.old.state self.old.sort (list_sort self.old.list) }
@@ -190,6 +194,37 @@ impl ElemStage {
                 let made = self.act(alloc, chunk, plan)?;
                 Ok(made)
             }
+        }
+    }
+
+    /// A step with a chunk. Where the word passes it on whole, no plan is made.
+    fn read(&mut self, alloc: Global, chunk: Chunk) -> Result<Move, NoMemory>
+        requires told { self.old.told ≡ false }
+        requires keep { self.old.keep ≡ None }
+        requires listed { StateFits self.old.state self.old.sort (list_sort self.old.list) }
+        requires within { KeepsBounds (with_chunk chunk self.old) }
+        ensures law { IfOk result (λ made. Went (with_chunk chunk self.old) made self.new) }
+        ensures fit { IfOk result (λ made. stage_fits self.new) }
+        ensures same { IsSameStage self.old self.new }
+        ensures within { KeepsBounds self.new }
+        ensures err { OnErr result (held_of self.new ≤ held_of (with_chunk chunk self.old)) }
+    {
+        match self.state {
+            WordState::Pass => {
+                let len = chunk.len();
+                self.stand = Stand::Gave;
+                Ok(Move::Emit(chunk))
+            }
+            WordState::Take(left) => {
+                let len = chunk.len();
+                if len as u64 <= left {
+                    self.state = WordState::Take(left - len as u64);
+                    self.stand = Stand::Gave;
+                    return Ok(Move::Emit(chunk));
+                }
+                self.read_planned(alloc, chunk)
+            }
+            _ => self.read_planned(alloc, chunk),
         }
     }
 
@@ -230,8 +265,7 @@ impl Stage for ElemStage {
     fn step(&mut self, alloc: Global, input: Input) -> Result<Move, NoMemory> {
         match input {
             Input::Chunk(chunk) => {
-                self.keep = Some(chunk);
-                let made = self.go(alloc)?;
+                let made = self.read(alloc, chunk)?;
                 Ok(made)
             }
             Input::End => {

@@ -3,7 +3,7 @@ use Rattle.cd_elemwise.proofs.stage.ElemStageStage.step.Goals as goal
 
 pub returns-in_ok-made-in-Chunk-clause-law : goal.returns-in_ok-made-in-Chunk-clause-law
 returns-in_ok-made-in-Chunk-clause-law c =
-    chunk_step c.args.self.now c.args.input c.in-Chunk.chunk c.in_ok-made-in-Chunk.made c.go.new.self c.in-Chunk.is c.requires.fit c.requires.answers c.in_ok-made-in-Chunk.ensures.law c.in_ok-made-in-Chunk.ensures.same
+    chunk_step c.args.self.now c.args.input c.in-Chunk.chunk c.in_ok-made-in-Chunk.made c.read.new.self c.in-Chunk.is c.requires.fit c.requires.answers c.in_ok-made-in-Chunk.ensures.law c.in_ok-made-in-Chunk.ensures.same
 
 pub returns-in_ok-made-in-End-clause-law : goal.returns-in_ok-made-in-End-clause-law
 returns-in_ok-made-in-End-clause-law c =
