@@ -5,23 +5,24 @@ PROGRAM = crates/conduit/out/conduit
 .PHONY: help build example install test cases edits gate-times random bench clean
 
 help:
-	@echo 'make example            builds the program and runs the first example'
-	@echo 'make build              builds the program, $(PROGRAM)'
+	@echo 'make example            compiles the program, unproved, and runs the first example'
+	@echo 'make build              proves and builds the program, $(PROGRAM)'
 	@echo 'make install PREFIX=..  builds the program and puts it into PREFIX/bin'
 	@echo 'make test               proves and tests everything'
 	@echo 'make cases              writes the data of crates/cases again'
 	@echo 'make edits CRATES=..    tries the wrong changes of the code, and right twins, of these crates or of all'
 	@echo 'make random COUNT=..    runs random scripts under several cuts, 200,000 if not given'
 	@echo 'make gate-times         runs the gate from nothing and prints what it costs'
-	@echo 'make bench              measures how many bytes a second words and trees read, and how long scripts are judged'
+	@echo 'make bench              measures words, trees of them, how long scripts are judged, and whole scripts beside Unix tools'
 	@echo 'make clean              removes what was built'
+
+# `rt try` compiles the program, without its proofs, and runs it in a folder of its own that holds these files.
+example:
+	@cd crates/conduit && rt try --data first.cdt=../../examples/first.cdt --data a=../../examples/a -- run first.cdt
 
 # `rt run` proves the program, links it and runs it: here on a script that reads nothing and writes nothing.
 build:
 	cd crates/conduit && rt run -- run ../../examples/nothing.cdt
-
-example: build
-	@cd examples && ../$(PROGRAM) run first.cdt
 
 install: build
 	install -D $(PROGRAM) '$(DESTDIR)$(PREFIX)/bin/conduit'
@@ -53,6 +54,7 @@ bench:
 	bench/trees.sh
 	$(MAKE) --no-print-directory build
 	bench/scripts.sh
+	bench/pipelines.sh
 
 clean:
 	rm -rf crates/*/out

@@ -1,11 +1,12 @@
 #!/usr/bin/env bash
-# Tries the wrong changes of the code, and the right twins of those that the gate tries.
+# Tries the wrong changes of the code, and the right twins of some of them.
 #
 # usage: tools/edits.sh [CRATE..]      those of these crates, or of all
 #
 # The check of a crate must refuse each change in crates/CRATE/must-fail, which the gate tries too, and in edits/CRATE.
-# Each of the gate has a twin of its name in edits/twins/CRATE: a change of the same line in the same form that means what
-# stood there before. The check must accept the twin, so that it is the meaning which is refused and not the form.
+# Each of the gate, and some of the others, has a twin of its name in edits/twins/CRATE: a change of the same line in the
+# same form that means what stood there before. The check must accept the twin, so that it is the meaning which is refused
+# and not the form.
 #
 # All is done in a copy of the tree as it stands, which is taken away at the end. A check begins with what earlier ones
 # kept. The last line is 'N edits refused, M twins accepted', and the status is 0 where these are all.
@@ -39,8 +40,8 @@ compare_names() {
     for name in $(comm -23 <(names_in "$gate") <(names_in "edits/twins/$1")); do
         fail "$1/$name has no twin"
     done
-    for name in $(comm -13 <(names_in "$gate") <(names_in "edits/twins/$1")); do
-        fail "twin $1/$name is that of no edit of the gate"
+    for name in $(comm -13 <(names_in "$gate" && names_in "edits/$1") <(names_in "edits/twins/$1")); do
+        fail "twin $1/$name is that of no edit"
     done
 }
 
