@@ -1,5 +1,5 @@
 // Chunks: what goes from one part of a pipe to the next.
-ghost use Rattle.std.specs.Prelude.{◌≡◌, ◌<◌, ◌≤◌, ◌+◌, ◌↔◌, length, slice_get, take, drop, IsTrue, IsSome, IfSome, IfOk, OnOk, OnErr, [], false, true};
+ghost use Rattle.std.specs.Prelude.{◌≡◌, ◌<◌, ◌≤◌, ◌+◌, ◌↔◌, length, slice_get, take, drop, IsTrue, IsSome, IsOk, IfSome, IfOk, IfErr, OnOk, OnErr, [], false, true};
 ghost use Rattle.cd_elem.specs.Chunks.{is_cut, has_chars, HasSize, sort_of, numbers_of};
 ghost use Rattle.cd_elem.specs.Limits.{chunk_limit, piece_limit};
 ghost use Rattle.cd_elem.specs.declared.kind.Sort.TheVariants as sort;
@@ -89,6 +89,21 @@ fn part<T: Copy>(
     ensures { IfOk result (λ copy. copy ≡ take count (drop start items.now)) }
 {
     Items::from_slice(alloc, between(items.as_slice(), start, count))
+}
+
+/// What follows `start` members, in the memory of the list.
+fn rest_of<T: Copy>(items: Items<T>, start: usize) -> Items<T>
+    requires { start ≤ length items }
+    ensures { result ≡ drop start items }
+{
+    if start == 0 {
+        return items;
+    }
+    let mut rest = items.into_vec();
+    let count = rest.len() - start;
+    rest.copy_within(start.., 0);
+    rest.truncate(count);
+    Items::from_vec(rest)
 }
 
 fn byte_at(items: &[u8], place: usize) -> Option<u32>
@@ -278,6 +293,32 @@ impl Chunk {
                 self.start,
             )),
             Elements::Bytes(_) | Elements::Block(_) => None,
+        }
+    }
+
+    /// Its elements as a list, where they are bytes, and else the chunk as it was. It takes no memory.
+    pub fn into_bytes(self) -> Result<ByteList, Chunk>
+        ensures ok { IsOk result ↔ (has_chars self.0 ≡ false) }
+        ensures value { IfOk result (λ bytes. bytes ≡ self.1) }
+        ensures given_back { IfErr result (λ chunk. chunk ≡ self) }
+    {
+        let Chunk { elements, start } = self;
+        match elements {
+            Elements::Bytes(items) | Elements::Block(items) => Ok(rest_of(items, start)),
+            elements => Err(Chunk { elements, start }),
+        }
+    }
+
+    /// Its elements as a list, where they are characters, and else the chunk as it was. It takes no memory.
+    pub fn into_chars(self) -> Result<CharList, Chunk>
+        ensures ok { IsOk result ↔ (has_chars self.0 ≡ true) }
+        ensures value { IfOk result (λ chars. chars ≡ self.1) }
+        ensures given_back { IfErr result (λ chunk. chunk ≡ self) }
+    {
+        let Chunk { elements, start } = self;
+        match elements {
+            Elements::Chars(items) | Elements::Text(items) => Ok(rest_of(items, start)),
+            elements => Err(Chunk { elements, start }),
         }
     }
 
