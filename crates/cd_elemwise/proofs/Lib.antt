@@ -1,4 +1,5 @@
 mod InPlace
+mod Repeats
 pub mod PlanLaws
 pub mod StageLaws
 pub mod WordReads

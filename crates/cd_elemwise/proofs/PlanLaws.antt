@@ -1,5 +1,5 @@
 -- What each word does with its chunk is its plan.
-use Rattle.std.proofs.Common.{◌≡◌, ◌≢◌, ℕ, zero, suc, ◌+◌, ◌-◌, ◌*◌, ◌/◌, ◌≤◌, ◌<◌, min, Bool, true, false, cond, List, [], ◌∷◌, ◌++◌, length, map, filter, replicate, take, drop, sum, get_or, refl, ap, sym, ◌∙◌, subst, Option, Some, None, IsTrue, arith, length-append}
+use Rattle.std.proofs.Common.{◌≡◌, ◌≢◌, ℕ, zero, suc, ◌+◌, ◌-◌, ◌*◌, ◌/◌, ◌≤◌, ◌<◌, min, Bool, true, false, cond, List, [], ◌∷◌, ◌++◌, length, map, filter, replicate, take, drop, sum, get_or, refl, ap, ap₂, sym, ◌∙◌, subst, Option, Some, None, IsTrue, arith, length-append}
 use Rattle.std.proofs.lemmas.List.{length-take, length-take-le, length-replicate}
 use Rattle.std.proofs.Math.Seq.{take-length}
 use Rattle.std.proofs.Math.Nat.{le-div_iff_mul-le}
@@ -17,12 +17,12 @@ use Rattle.cd_meaning.specs.Classes.{is_in_class, element_mapped}
 use Rattle.cd_meaning.specs.Sorts.{value_of}
 use Rattle.cd_step.specs.Parts.{Chunk}
 use Rattle.cd_step.specs.Reading.{IsRead, IsDone}
-use Rattle.cd_elemwise.specs.declared.chunks.ElementSlice.{ElementSlice}
 use Rattle.cd_elemwise.specs.declared.plan.ChunkPlan.TheVariants.{Need, Pass, Give, End}
+use Rattle.cd_elemwise.specs.declared.state.Gathered.{Gathered}
 use Rattle.cd_elemwise.specs.declared.state.Single.{Single}
 use Rattle.cd_elemwise.specs.declared.state.WordState.{WordState}
 use Rattle.cd_elemwise.specs.declared.state.WordState.TheVariants as state
-use Rattle.cd_elemwise.specs.Carried.{Carried, Doing, Emits, IsChunkOf, IsElements, MapFits, single_of, single_plain, single_value, list_value, carried_ready, word_scan}
+use Rattle.cd_elemwise.specs.Carried.{Carried, Doing, Emits, IsChunkOf, MapFits, gathered, list_sort, single_of, single_plain, single_value, list_value, carried_ready, word_scan}
 use Rattle.cd_elemwise.specs.Plans.{IsPlan}
 use Rattle.cd_elemwise.specs.Stages.{IsPlain, StateFits}
 use Rattle.cd_elemwise.proofs.WordReads.{elems, outs, read_pass, read_take, read_while, read_filter, read_map, read_repeat, silent_repeat, silent_filter, silent_drop, silent_collect, silent_length, silent_sum, silent_last, silent_while, silent_all, done_take_while, done_drop_while, done_all, done_head, done_peek, done_null, done_drop, done_collect}
@@ -43,8 +43,8 @@ done_by k s read rest u v h d = subst (λ x. IsDone (word_scan k) s read rest x)
 
 -- ---- chunks
 
-pub elements_are : (c : Chunk) (e f : ElementSlice) → e ≡ f → IsElements e c → IsElements f c
-elements_are c e f h i = subst (λ x. IsElements x c) h i
+pub owned_is : (c : Chunk) (l m : Gathered) → l ≡ m → gathered l ≡ c.1 → list_sort l ≡ c.0 → c ≡ (list_sort m, gathered m)
+owned_is c l m h e f = subst (λ x. c ≡ (list_sort x, gathered x)) h (ap₂ (λ k numbers. (k, numbers)) (sym f) (sym e))
 
 pub map_cut : (by : ByteMap) (k : Sort) → MapFits by k → IsTrue (is_cut k)
 map_cut by Sort.Bytes h = refl
@@ -53,7 +53,7 @@ map_cut by Sort.Block h = absurd h
 map_cut by Sort.Text h = absurd h
 
 pub plain_cut : (s : WordState) (k listed : Sort) → IsPlain s → StateFits s k listed → IsTrue (is_cut k)
-plain_cut (state.Map by) k listed p f = map_cut by k f
+plain_cut (state.Map by) k listed p f = absurd p
 plain_cut (state.Repeat n) k listed p f = f.0
 plain_cut (state.Sum n) k listed p f = rw f refl
 plain_cut (state.Collect n) k listed p f = absurd p

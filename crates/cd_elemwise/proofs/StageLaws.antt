@@ -6,6 +6,8 @@ use Rattle.std.proofs.Math.Seq.{take-length}
 use Rattle.cd_elem.specs.Limits.{chunk_limit}
 use Rattle.cd_elem.specs.Chunks.{is_cut, HasSize}
 use Rattle.cd_elem.specs.declared.value.Value.{Value as Result}
+use Rattle.cd_elem.specs.declared.word.ByteMap.{ByteMap}
+use Rattle.cd_elem.specs.declared.word.Class.{Class}
 use Rattle.cd_meaning.specs.Stream.{Sort, Item, Elem, Act, Out}
 use Rattle.cd_meaning.specs.Rest.{Finishes}
 use Rattle.cd_meaning.specs.Values.{value_meaning}
@@ -183,10 +185,12 @@ sort_of_kind Sort.Chars = refl
 sort_of_kind Sort.Block = refl
 sort_of_kind Sort.Text = refl
 
-pub plain_state : (s : WordState) → ((n : ℕ) → s ≡ state.Collect n → ⊥) → (s ≡ state.SinkNull → ⊥) → IsPlain s
-plain_state (state.Collect n) g h = absurd (g n refl)
-plain_state state.SinkNull g h = absurd (h refl)
-plain_state _ g h = tt
+pub plain_state : (s : WordState) → ((c : Class) → s ≡ state.Filter c → ⊥) → ((by : ByteMap) → s ≡ state.Map by → ⊥) → ((n : ℕ) → s ≡ state.Collect n → ⊥) → (s ≡ state.SinkNull → ⊥) → IsPlain s
+plain_state (state.Filter c) e f g h = absurd (e c refl)
+plain_state (state.Map by) e f g h = absurd (f by refl)
+plain_state (state.Collect n) e f g h = absurd (g n refl)
+plain_state state.SinkNull e f g h = absurd (h refl)
+plain_state _ e f g h = tt
 
 -- what it carries then is of the same word
 pub read_from : (e : ElemStage) (st : WordState) (l : _) (c : Chunk) (m : Move) (f : ElemStage) → e.told ≡ false → gives_of st e.sort ≡ gives_of e.state e.sort
@@ -204,6 +208,23 @@ read_from e st l c m f t g h =
 pub whole_stage : (e : ElemStage) (st : WordState) (c : Chunk) (len : ℕ) → IsTrue (is_cut e.sort) → e.told ≡ false → e.keep ≡ None → c.0 ≡ e.sort → len ≡ length c.1 → HasSize c.0 len → gives_of st e.sort ≡ gives_of e.state e.sort
     → IsPlan e.sort (carried e) c.1 (plan.Pass len) (Doing st (gathered e.list)) → Went (with_chunk c e) (Emit c) (record e { stand = Gave; state = st })
 whole_stage e st c len h t k i l z g p = read_from e st e.list c (Emit c) (record e { stand = Gave; state = st }) t g (pass_whole (record e { state = st }) (carried e) c len len h t k i l z refl p)
+
+-- what was made of the whole chunk is given
+pub made_stage : (e : ElemStage) (st : WordState) (c d : Chunk) (len : ℕ) → IsTrue (is_cut e.sort) → e.told ≡ false → e.keep ≡ None → c.0 ≡ e.sort → len ≡ length c.1 → e.state ≡ st
+    → IsPlan e.sort (Doing st (gathered e.list)) c.1 (plan.Give d len) (Doing st (gathered e.list)) → Went (with_chunk c e) (Emit d) (record e { stand = Gave; state = st })
+made_stage e st c d len h t k i l q p =
+    subst (λ s. Went (with_chunk c e) (Emit d) (record e { stand = Gave; state = s })) q
+    (read_from e e.state e.list c (Emit d) (record e { stand = Gave }) t refl
+    (give_stage e (carried e) c d len e.keep h t i (subst (IsChunkOf c.0 (drop len c.1)) (sym k) (drop_of_length-le c.1 (omega (arith, l))))
+    (subst (λ s. IsPlan e.sort (Doing s (gathered e.list)) c.1 (plan.Give d len) (Doing s (gathered e.list))) (sym q) p)))
+
+-- nothing was made of the chunk
+pub none_stage : (e : ElemStage) (st : WordState) (c : Chunk) → IsTrue (is_cut e.sort) → e.told ≡ false → e.keep ≡ None → c.0 ≡ e.sort → e.state ≡ st
+    → IsPlan e.sort (Doing st (gathered e.list)) c.1 plan.Need (Doing st (gathered e.list)) → Went (with_chunk c e) Need (record e { stand = Wait; state = st })
+none_stage e st c h t k i q p =
+    subst (λ s. Went (with_chunk c e) Need (record e { stand = Wait; state = s })) q
+    (read_from e e.state e.list c Need (record e { stand = Wait }) t refl
+    (need_stage e (carried e) c h t k i (subst (λ s. IsPlan e.sort (Doing s (gathered e.list)) c.1 plan.Need (Doing s (gathered e.list))) (sym q) p)))
 
 one_silent : (k : Sort) (c : Chunk) (l : List ℕ) → IsSilent (word_scan k) (Doing state.SinkNull l) (items c) (Doing state.SinkNull l)
 one_silent k c l = all_silent (items c) where

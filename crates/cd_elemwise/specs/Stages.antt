@@ -41,8 +41,10 @@ StateFits (state.Collect n) k listed = IsTrue (is_cut k) × (listed ≡ k)
 StateFits state.SinkNull k listed = Unit {0}
 StateFits _ k listed = IsTrue (is_cut k)
 
--- it keeps no list, and takes cut streams alone
+-- it keeps no list, changes no chunk, and takes cut streams alone
 abbrev pub IsPlain : WordState → Type 0
+IsPlain (state.Filter c) = ⊥
+IsPlain (state.Map by) = ⊥
 IsPlain (state.Collect n) = ⊥
 IsPlain state.SinkNull = ⊥
 IsPlain _ = Unit {0}

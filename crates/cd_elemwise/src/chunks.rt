@@ -6,12 +6,13 @@ ghost use Rattle.cd_elem.specs.Limits.{chunk_limit};
 ghost use Rattle.cd_elem.specs.declared.kind.Sort.TheVariants as sort;
 ghost use Rattle.cd_meaning.specs.Classes.{is_in_class, element_mapped};
 ghost use Rattle.cd_meaning.specs.RunShapes.{as_count};
-ghost use Rattle.cd_elemwise.specs.Carried.{IsElements, MapFits, IsChunkOf, single_of};
+ghost use Rattle.cd_elemwise.specs.Carried.{IsElements, MapFits, IsChunkOf, gathered, list_sort, single_of};
 
+use crate::class_table::ClassTable;
 use crate::element::Element;
 use crate::slice::{front, mapped, passing, repeated, sum_behind};
-use crate::state::Single;
-use cd_elem::{ByteMap, Chunk, Class, Items, NoMemory};
+use crate::state::{Gathered, Single};
+use cd_elem::{ByteMap, Chunk, Items, NoMemory};
 use std::alloc::Global;
 
 /// The elements of a chunk.
@@ -34,14 +35,14 @@ pub fn elements_of(chunk: &Chunk) -> ElementSlice<'_>
 }
 
 /// How many elements stand before the first that is not in the class.
-pub fn front_of(class: Class, chunk: &Chunk) -> usize
+pub fn front_of(table: &ClassTable, chunk: &Chunk) -> usize
     requires { IsTrue (is_cut chunk.now.0) }
-    ensures value { result ≡ prefix_len (is_in_class class) chunk.now.1 }
+    ensures value { result ≡ prefix_len (is_in_class table.now) chunk.now.1 }
     ensures within { result ≤ length chunk.now.1 }
 {
     match elements_of(chunk) {
-        ElementSlice::Bytes(bytes) => front(class, bytes),
-        ElementSlice::Chars(chars) => front(class, chars),
+        ElementSlice::Bytes(bytes) => front(table, bytes),
+        ElementSlice::Chars(chars) => front(table, chars),
     }
 }
 
@@ -56,39 +57,42 @@ fn some_chunk<T: Element>(list: Items<T>) -> Option<Chunk>
     }
 }
 
-/// Those in the class, None where there is none.
-pub fn passing_of(alloc: Global, class: Class, chunk: &Chunk) -> Result<Option<Chunk>, NoMemory>
-    requires { IsTrue (is_cut chunk.now.0) }
-    ensures { IfOk result (IsChunkOf chunk.now.0 (filter (is_in_class class) chunk.now.1)) }
+/// The elements of a chunk as a list, in the memory that it has.
+fn owned_of(chunk: Chunk) -> Gathered
+    requires { IsTrue (is_cut chunk.0) }
+    ensures list { gathered result ≡ chunk.1 }
+    ensures sort { list_sort result ≡ chunk.0 }
 {
-    let some = chunk.len();
-    match elements_of(chunk) {
-        ElementSlice::Bytes(bytes) => {
-            let list = passing(alloc, class, bytes)?;
-            Ok(some_chunk(list))
-        }
-        ElementSlice::Chars(chars) => {
-            let list = passing(alloc, class, chars)?;
-            Ok(some_chunk(list))
-        }
+    match chunk.into_bytes() {
+        Ok(bytes) => Gathered::Bytes(bytes),
+        Err(chunk) => match chunk.into_chars() {
+            Ok(chars) => Gathered::Chars(chars),
+            Err(_) => unreachable!(),
+        },
     }
 }
 
-/// What the map makes of each.
-pub fn mapped_of(alloc: Global, by: ByteMap, chunk: &Chunk) -> Result<Chunk, NoMemory>
-    requires { MapFits by chunk.now.0 }
-    ensures { IfOk result (λ made. made ≡ (chunk.now.0, map (element_mapped by) chunk.now.1)) }
+/// Those in the class, None where there is none. It takes no memory.
+pub fn passing_of(table: &ClassTable, chunk: Chunk) -> Option<Chunk>
+    requires { IsTrue (is_cut chunk.0) }
+    ensures { IsChunkOf chunk.0 (filter (is_in_class table.now) chunk.1) result }
 {
     let some = chunk.len();
-    match elements_of(chunk) {
-        ElementSlice::Bytes(bytes) => {
-            let list = mapped(alloc, by, bytes)?;
-            Ok(u8::chunk_of(list))
-        }
-        ElementSlice::Chars(chars) => {
-            let list = mapped(alloc, by, chars)?;
-            Ok(char::chunk_of(list))
-        }
+    match owned_of(chunk) {
+        Gathered::Bytes(bytes) => some_chunk(passing(table, bytes)),
+        Gathered::Chars(chars) => some_chunk(passing(table, chars)),
+    }
+}
+
+/// What the map makes of each. It takes no memory.
+pub fn mapped_of(by: ByteMap, chunk: Chunk) -> Chunk
+    requires { MapFits by chunk.0 }
+    ensures { result ≡ (chunk.0, map (element_mapped by) chunk.1) }
+{
+    let some = chunk.len();
+    match owned_of(chunk) {
+        Gathered::Bytes(bytes) => u8::chunk_of(mapped(by, bytes)),
+        Gathered::Chars(chars) => char::chunk_of(mapped(by, chars)),
     }
 }
 

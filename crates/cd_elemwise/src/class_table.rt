@@ -1,16 +1,17 @@
 // A class made ready for many elements.
-ghost use Rattle.std.specs.Prelude.{◌≡◌, ◌<◌, ℕ, get_or, false};
+ghost use Rattle.std.specs.Prelude.{◌≡◌, ◌<◌, ℕ, IfOk, get_or, false};
 ghost use Rattle.cd_meaning.specs.Classes.{is_in_class};
 
 use crate::class::is_in;
-use cd_elem::Class;
+use cd_elem::{Class, NoMemory};
+use std::alloc::Global;
 use std::marker::Model;
 
-/// A class, and its answers to the numbers below 256 where they are looked up. Contracts see the class.
+/// A class with its answers to the numbers below 256, which are looked up. Contracts see the class.
 #[derive(Drop)]
 pub struct ClassTable {
     class: Class,
-    answers: Option<[bool; 256]>,
+    answers: Box<[bool; 256]>,
 }
 
 impl Model for ClassTable {
@@ -21,7 +22,7 @@ impl Model for ClassTable {
 
     ghost view = { λ table. table.class };
 
-    ghost invariant = { λ table. IsTable table.class table.answers };
+    ghost invariant = { λ table. IsTable table.class table.answers.value };
 }
 
 /// The answers of the class to the numbers below 256, in their order.
@@ -36,16 +37,11 @@ fn answers_of(class: Class) -> [bool; 256]
 }
 
 impl ClassTable {
-    /// The class for so many elements. The answers are worked out only where they are fewer than the elements.
-    pub fn new(class: Class, count: usize) -> ClassTable
-        ensures { result ≡ class }
+    pub fn new(alloc: Global, class: Class) -> Result<ClassTable, NoMemory>
+        ensures { IfOk result (λ table. table ≡ class) }
     {
-        let answers = if count > 256 {
-            Some(answers_of(class))
-        } else {
-            None
-        };
-        ClassTable { class, answers }
+        let answers = Box::new(alloc, answers_of(class))?;
+        Ok(ClassTable { class, answers })
     }
 
     /// Whether the element with this number is in the class.
@@ -53,9 +49,10 @@ impl ClassTable {
     pub fn has(&self, number: u32) -> bool
         ensures { result ≡ is_in_class self.now number }
     {
-        match &self.answers {
-            Some(answers) if number < 256 => answers[number as usize],
-            _ => is_in(self.class, number),
+        if number < 256 {
+            self.answers[number as usize]
+        } else {
+            is_in(self.class, number)
         }
     }
 }

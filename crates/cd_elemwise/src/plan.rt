@@ -1,16 +1,17 @@
 // What a word does with the chunk that it has.
-ghost use Rattle.std.specs.Prelude.{◌≡◌, ◌+◌, ◌<◌, ◌≤◌, ◌/◌, min, ℕ, List, IfOk, IsTrue, length, sum};
+ghost use Rattle.std.specs.Prelude.{◌≡◌, ◌+◌, ◌<◌, ◌≤◌, ◌/◌, min, ℕ, List, IfOk, OnErr, IsTrue, length, sum};
 ghost use Rattle.cd_elem.specs.Chunks.{is_cut};
 ghost use Rattle.cd_elem.specs.Limits.{chunk_limit, repeat_limit};
 ghost use Rattle.cd_elem.specs.declared.kind.Sort.TheVariants as sort;
-ghost use Rattle.cd_elemwise.specs.Carried.{Doing, MapFits, IsChunkOf};
+ghost use Rattle.cd_elemwise.specs.Carried.{Doing};
 ghost use Rattle.cd_elemwise.specs.Plans.{IsPlan};
 ghost use Rattle.cd_elemwise.specs.Stages.{IsPlain, StateFits, IsSameWord};
 ghost use Rattle.cd_elemwise.specs.declared.state.WordState.TheVariants as state;
 
-use crate::chunks::{front_of, last_of, mapped_of, passing_of, repeated_of, single_at, sum_of};
+use crate::chunks::{front_of, last_of, repeated_of, single_at, sum_of};
+use crate::class_table::ClassTable;
 use crate::state::{WordState, present_of};
-use cd_elem::{ByteMap, CHUNK_LIMIT, Chunk, Class, NoMemory, Value};
+use cd_elem::{CHUNK_LIMIT, Chunk, NoMemory, Value};
 use std::alloc::Global;
 
 /// What a word does next with the elements of its chunk.
@@ -44,39 +45,17 @@ fn take(left: u64, chunk: &Chunk) -> (u64, ChunkPlan)
 }
 
 #[inline(never)]
-fn take_while(class: Class, chunk: &Chunk) -> ChunkPlan
+fn take_while(table: &ClassTable, chunk: &Chunk) -> ChunkPlan
     requires { IsTrue (is_cut chunk.now.0) }
-    ensures { (l : List ℕ) → IsPlan chunk.now.0 (Doing (state.TakeWhile class) l) chunk.now.1 result (Doing (state.TakeWhile class) l) }
+    ensures { (l : List ℕ) → IsPlan chunk.now.0 (Doing (state.TakeWhile table.now) l) chunk.now.1 result (Doing (state.TakeWhile table.now) l) }
 {
-    let count = front_of(class, chunk);
+    let count = front_of(table, chunk);
     let len = chunk.len();
     if count == 0 {
         ChunkPlan::End(Value::Unit, 0)
     } else {
         ChunkPlan::Pass(count)
     }
-}
-
-#[inline(never)]
-fn filter(alloc: Global, class: Class, chunk: &Chunk) -> Result<ChunkPlan, NoMemory>
-    requires { IsTrue (is_cut chunk.now.0) }
-    ensures { IfOk result (λ plan. (l : List ℕ) → IsPlan chunk.now.0 (Doing (state.Filter class) l) chunk.now.1 plan (Doing (state.Filter class) l)) }
-{
-    let len = chunk.len();
-    match passing_of(alloc, class, chunk)? {
-        Some(made) => Ok(ChunkPlan::Give(made, len)),
-        None => Ok(ChunkPlan::Need),
-    }
-}
-
-#[inline(never)]
-fn map(alloc: Global, by: ByteMap, chunk: &Chunk) -> Result<ChunkPlan, NoMemory>
-    requires { MapFits by chunk.now.0 }
-    ensures { IfOk result (λ plan. (l : List ℕ) → IsPlan chunk.now.0 (Doing (state.Map by) l) chunk.now.1 plan (Doing (state.Map by) l)) }
-{
-    let len = chunk.len();
-    let made = mapped_of(alloc, by, chunk)?;
-    Ok(ChunkPlan::Give(made, len))
 }
 
 /// How many of these elements make a chunk, each so many times.
@@ -116,11 +95,11 @@ fn drop(left: u64, chunk: &Chunk) -> (u64, ChunkPlan)
 }
 
 #[inline(never)]
-fn drop_while(class: Class, chunk: &Chunk) -> ChunkPlan
+fn drop_while(table: &ClassTable, chunk: &Chunk) -> ChunkPlan
     requires { IsTrue (is_cut chunk.now.0) }
-    ensures { (l : List ℕ) → IsPlan chunk.now.0 (Doing (state.DropWhile class) l) chunk.now.1 result (Doing (state.DropWhile class) l) }
+    ensures { (l : List ℕ) → IsPlan chunk.now.0 (Doing (state.DropWhile table.now) l) chunk.now.1 result (Doing (state.DropWhile table.now) l) }
 {
-    let count = front_of(class, chunk);
+    let count = front_of(table, chunk);
     if count == chunk.len() {
         ChunkPlan::Need
     } else {
@@ -129,11 +108,11 @@ fn drop_while(class: Class, chunk: &Chunk) -> ChunkPlan
 }
 
 #[inline(never)]
-fn all(class: Class, answer: bool, chunk: &Chunk) -> ChunkPlan
+fn all(table: &ClassTable, answer: bool, chunk: &Chunk) -> ChunkPlan
     requires { IsTrue (is_cut chunk.now.0) }
-    ensures { (l : List ℕ) → IsPlan chunk.now.0 (Doing (state.All class answer) l) chunk.now.1 result (Doing (state.All class answer) l) }
+    ensures { (l : List ℕ) → IsPlan chunk.now.0 (Doing (state.All table.now answer) l) chunk.now.1 result (Doing (state.All table.now answer) l) }
 {
-    let count = front_of(class, chunk);
+    let count = front_of(table, chunk);
     if count == chunk.len() {
         ChunkPlan::Need
     } else {
@@ -163,59 +142,57 @@ fn peek(alloc: Global, chunk: &Chunk) -> Result<ChunkPlan, NoMemory>
     Ok(ChunkPlan::End(value, 0))
 }
 
-/// What a word does that keeps no list, with a chunk of a cut stream, and what it then carries.
+/// What a word does with a chunk of a cut stream that stays as it is, and what it then carries. The word keeps no list.
 #[inline(never)]
-pub fn planned(
-    alloc: Global,
-    state: WordState,
-    chunk: &Chunk,
-) -> Result<(WordState, ChunkPlan), NoMemory>
-    requires plain { IsPlain state }
-    requires fits { StateFits state chunk.now.0 chunk.now.0 }
-    ensures law { IfOk result (λ made. (l : List ℕ) → IsPlan chunk.now.0 (Doing state l) chunk.now.1 made.1 (Doing made.0 l)) }
-    ensures same { IfOk result (λ made. IsSameWord state made.0) }
+pub fn planned(alloc: Global, state: &mut WordState, chunk: &Chunk) -> Result<ChunkPlan, NoMemory>
+    requires plain { IsPlain state.old }
+    requires fits { StateFits state.old chunk.now.0 chunk.now.0 }
+    ensures law { IfOk result (λ plan. (l : List ℕ) → IsPlan chunk.now.0 (Doing state.old l) chunk.now.1 plan (Doing state.new l)) }
+    ensures same { IsSameWord state.old state.new }
+    ensures err { OnErr result (state.new ≡ state.old) }
 {
     let len = chunk.len();
     match state {
-        WordState::Pass => Ok((state, ChunkPlan::Pass(len))),
+        WordState::Pass => Ok(ChunkPlan::Pass(len)),
         WordState::Take(left) => {
-            let (left, plan) = take(left, chunk);
-            Ok((WordState::Take(left), plan))
+            let (rest, plan) = take(*left, chunk);
+            *left = rest;
+            Ok(plan)
         }
-        WordState::TakeWhile(class) => Ok((state, take_while(class, chunk))),
-        WordState::Filter(class) => {
-            let plan = filter(alloc, class, chunk)?;
-            Ok((state, plan))
-        }
-        WordState::Map(by) => {
-            let plan = map(alloc, by, chunk)?;
-            Ok((state, plan))
-        }
+        WordState::TakeWhile(table) => Ok(take_while(table, chunk)),
         WordState::Repeat(times) => {
-            let plan = repeat(alloc, times, chunk)?;
-            Ok((state, plan))
+            let plan = repeat(alloc, *times, chunk)?;
+            Ok(plan)
         }
         WordState::Drop(left) => {
-            let (left, plan) = drop(left, chunk);
-            Ok((WordState::Drop(left), plan))
+            let (rest, plan) = drop(*left, chunk);
+            *left = rest;
+            Ok(plan)
         }
-        WordState::DropWhile(class) => Ok((state, drop_while(class, chunk))),
+        WordState::DropWhile(table) => Ok(drop_while(table, chunk)),
         WordState::Head => {
             let plan = head(alloc, chunk)?;
-            Ok((state, plan))
+            Ok(plan)
         }
         WordState::Peek => {
             let plan = peek(alloc, chunk)?;
-            Ok((state, plan))
+            Ok(plan)
         }
-        WordState::Last(_) => Ok((WordState::Last(Some(last_of(chunk))), ChunkPlan::Need)),
+        WordState::Last(last) => {
+            *last = Some(last_of(chunk));
+            Ok(ChunkPlan::Need)
+        }
         WordState::Length(count) => {
-            let count = count.saturating_add(len as u64);
-            Ok((WordState::Length(count), ChunkPlan::Need))
+            *count = count.saturating_add(len as u64);
+            Ok(ChunkPlan::Need)
         }
-        WordState::Sum(total) => Ok((WordState::Sum(sum_of(total, chunk)), ChunkPlan::Need)),
-        WordState::All(class, answer) => Ok((state, all(class, answer, chunk))),
-        WordState::Null => Ok((state, ChunkPlan::End(Value::Bool(false), 0))),
-        WordState::Collect(_) | WordState::SinkNull => unreachable!(),
+        WordState::Sum(total) => {
+            *total = sum_of(*total, chunk);
+            Ok(ChunkPlan::Need)
+        }
+        WordState::All(table, answer) => Ok(all(table, *answer, chunk)),
+        WordState::Null => Ok(ChunkPlan::End(Value::Bool(false), 0)),
+        WordState::Filter(_) | WordState::Map(_) | WordState::Collect(_) | WordState::SinkNull =>
+            unreachable!(),
     }
 }

@@ -1,5 +1,5 @@
 // What is done with many elements at a time, in one pass.
-ghost use Rattle.std.specs.Prelude.{◌≡◌, ◌+◌, ◌*◌, ◌<◌, ◌≤◌, ℕ, IfOk, OnOk, ◌++◌, length, map, filter, replicate, sum};
+ghost use Rattle.std.specs.Prelude.{◌≡◌, ◌+◌, ◌*◌, ◌<◌, ◌≤◌, ℕ, IfOk, ◌++◌, length, map, filter, take, drop, replicate, sum};
 ghost use Rattle.std.specs.List.{prefix_len, flat_map};
 ghost use Rattle.cd_elem.specs.Limits.{chunk_limit};
 ghost use Rattle.cd_meaning.specs.Classes.{is_in_class, element_mapped};
@@ -7,15 +7,14 @@ ghost use Rattle.cd_meaning.specs.RunShapes.{as_count};
 
 use crate::class_table::ClassTable;
 use crate::element::Element;
-use cd_elem::{ByteMap, Class, Items, NoMemory};
+use cd_elem::{ByteMap, Items, NoMemory};
 use std::alloc::Global;
 
 /// How many elements stand before the first that is not in the class.
-pub fn front<T: Element>(class: Class, items: &[T]) -> usize
-    ensures value { result ≡ prefix_len (λ x. is_in_class class (T.number x)) items.now }
+pub fn front<T: Element>(table: &ClassTable, items: &[T]) -> usize
+    ensures value { result ≡ prefix_len (λ x. is_in_class table.now (T.number x)) items.now }
     ensures within { result ≤ length items.now }
 {
-    let table = ClassTable::new(class, items.len());
     for (place, item) in items.iter().enumerate() {
         if !table.has(item.number()) {
             return place;
@@ -24,40 +23,56 @@ pub fn front<T: Element>(class: Class, items: &[T]) -> usize
     items.len()
 }
 
-/// Those in the class.
-pub fn passing<T: Element>(alloc: Global, class: Class, items: &[T]) -> Result<Items<T>, NoMemory>
-    ensures { IfOk result (λ list. list ≡ filter (λ x. is_in_class class (T.number x)) items.now) }
+/// Those in the class, in the memory of the list.
+pub fn passing<T: Element>(table: &ClassTable, list: Items<T>) -> Items<T>
+    ensures { result ≡ filter (λ x. is_in_class table.now (T.number x)) list }
 {
-    let table = ClassTable::new(class, items.len());
-    let mut list = Vec::with_capacity(alloc, items.len())?;
-    for item in items {
-        if table.has(item.number()) {
-            list.push(*item)?;
-        }
-    }
-    Ok(Items::from_vec(list))
+    let mut list = list.into_vec();
+    list.retain(|item| table.has(item.number()));
+    Items::from_vec(list)
 }
 
-/// What the map makes of each.
-pub fn mapped<T: Element>(alloc: Global, by: ByteMap, items: &[T]) -> Result<Items<T>, NoMemory>
+/// What the map makes of each, in the memory of the list.
+pub fn mapped<T: Element>(by: ByteMap, list: Items<T>) -> Items<T>
     requires { T.has by }
-    ensures { IfOk result (λ list. map T.number list ≡ map (λ x. element_mapped by (T.number x)) items.now) }
+    ensures { map T.number result ≡ map (λ x. element_mapped by (T.number x)) list }
 {
-    let mut list = Vec::from_slice(alloc, items)?;
+    let mut list = list.into_vec();
     for item in list.iter_mut() {
         *item = item.mapped(by);
     }
-    Ok(Items::from_vec(list))
+    Items::from_vec(list)
 }
 
-/// Adds an element so many times.
-fn push_times<T: Element>(list: &mut Vec<T>, item: T, times: usize) -> Result<(), NoMemory>
-    ensures { OnOk result (list.new.items ≡ list.old.items ++ replicate times item) }
+/// Writes each twice, one pair behind the other.
+fn write_pairs<T: Element>(places: &mut [T], items: &[T])
+    requires { length places.old ≡ length items.now * 2 }
+    ensures { places.new ≡ flat_map (λ x. replicate 2 x) items.now }
 {
-    for _ in 0..times {
-        list.push(item)?;
+    for (index, item) in items.iter().enumerate() {
+        places[index * 2] = *item;
+        places[index * 2 + 1] = *item;
     }
-    Ok(())
+}
+
+/// Writes an element so many times, from a place on.
+fn write_run<T: Element>(places: &mut [T], start: usize, times: usize, item: T)
+    requires { start + times ≤ length places.old }
+    ensures { places.new ≡ take start places.old ++ replicate times item ++ drop (start + times) places.old }
+{
+    for index in 0..times {
+        places[start + index] = item;
+    }
+}
+
+/// Writes each so many times, one run behind the other.
+fn write_runs<T: Element>(places: &mut [T], times: usize, items: &[T])
+    requires { length places.old ≡ length items.now * times }
+    ensures { places.new ≡ flat_map (λ x. replicate times x) items.now }
+{
+    for (index, item) in items.iter().enumerate() {
+        write_run(places, index * times, times, *item);
+    }
 }
 
 /// Each so many times, at most `CHUNK_LIMIT` in all.
@@ -65,9 +80,17 @@ pub fn repeated<T: Element>(alloc: Global, times: usize, items: &[T]) -> Result<
     requires { length items.now * times ≤ chunk_limit }
     ensures { IfOk result (λ list. list ≡ flat_map (λ x. replicate times x) items.now) }
 {
+    if times == 1 {
+        return Items::from_slice(alloc, items);
+    }
     let mut list = Vec::with_capacity(alloc, items.len() * times)?;
-    for item in items {
-        push_times(&mut list, *item, times)?;
+    if let Some(first) = items.first() {
+        list.resize(items.len() * times, *first)?;
+        if times == 2 {
+            write_pairs(list.as_mut_slice(), items);
+        } else {
+            write_runs(list.as_mut_slice(), times, items);
+        }
     }
     Ok(Items::from_vec(list))
 }

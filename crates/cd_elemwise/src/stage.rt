@@ -12,7 +12,8 @@ ghost use Rattle.cd_elemwise.specs.Plans.{IsPlan};
 ghost use Rattle.cd_elemwise.specs.Stages.{asks_of, carried, seen_stage, stage_fits, stage_most, with_chunk, held_of, seen_from, IsFinal, IsPlanned, IsSameStage, KeepsBounds, StateFits, Went};
 ghost use Rattle.cd_meaning.specs.Values.{value_meaning};
 
-use crate::chunks::behind;
+use crate::chunks::{behind, mapped_of, passing_of};
+use crate::class_table::ClassTable;
 use crate::collect::{collect, collected};
 use crate::plan::{ChunkPlan, planned};
 use crate::state::{Gathered, WordState, present_of};
@@ -36,11 +37,11 @@ pub struct ElemStage {
     keep: Option<Chunk>,
 }
 
-fn asks(state: WordState) -> bool
-    ensures { result ≡ asks_of state }
+fn asks(state: &WordState) -> bool
+    ensures { result ≡ asks_of state.now }
 {
     match state {
-        WordState::Take(left) | WordState::Drop(left) | WordState::Collect(left) => left != 0,
+        WordState::Take(left) | WordState::Drop(left) | WordState::Collect(left) => *left != 0,
         _ => true,
     }
 }
@@ -58,16 +59,19 @@ impl ElemStage {
         ensures told { self.new.told ≡ self.old.told }
         ensures err { OnErr result (self.new ≡ self.old) }
     {
-        match self.state {
-            WordState::Head | WordState::Peek | WordState::Last(None) => Ok(Value::Maybe(None)),
-            WordState::Last(Some(single)) => {
-                let value = present_of(alloc, single)?;
-                self.state = WordState::Last(None);
-                Ok(value)
-            }
-            WordState::Length(count) => Ok(Value::Num(count)),
-            WordState::Sum(total) => Ok(Value::Num(total)),
-            WordState::All(_, answer) => Ok(Value::Bool(!answer)),
+        match &mut self.state {
+            WordState::Head | WordState::Peek => Ok(Value::Maybe(None)),
+            WordState::Last(last) => match *last {
+                Some(single) => {
+                    let value = present_of(alloc, single)?;
+                    *last = None;
+                    Ok(value)
+                }
+                None => Ok(Value::Maybe(None)),
+            },
+            WordState::Length(count) => Ok(Value::Num(*count)),
+            WordState::Sum(total) => Ok(Value::Num(*total)),
+            WordState::All(_, answer) => Ok(Value::Bool(!*answer)),
             WordState::Null => Ok(Value::Bool(true)),
             WordState::Collect(_) => Ok(collected(alloc, &mut self.list)),
             _ => Ok(Value::Unit),
@@ -106,7 +110,7 @@ impl ElemStage {
         ensures within { KeepsBounds self.new }
         ensures err { OnErr result (self.new ≡ self.old) }
     {
-        if asks(self.state) {
+        if asks(&self.state) {
             self.stand = Stand::Wait;
             return Ok(Move::Need);
         }
@@ -163,7 +167,7 @@ impl ElemStage {
         }
     }
 
-    /// A step with a chunk, by the plan of its word.
+    /// A step with a chunk, by the plan of its word unless it changes the chunk itself.
     #[inline(never)]
     fn read_planned(&mut self, alloc: Global, chunk: Chunk) -> Result<Move, NoMemory>
         requires told { self.old.told ≡ false }
@@ -176,21 +180,39 @@ impl ElemStage {
         ensures within { KeepsBounds self.new }
         ensures err { OnErr result (held_of self.new ≤ held_of (with_chunk chunk self.old)) }
     {
-        match self.state {
+        match &mut self.state {
             WordState::SinkNull => {
                 drop(chunk);
                 self.stand = Stand::Wait;
                 Ok(Move::Need)
             }
+            WordState::Filter(table) => {
+                let len = chunk.len();
+                match passing_of(table, chunk) {
+                    Some(made) => {
+                        self.stand = Stand::Gave;
+                        Ok(Move::Emit(made))
+                    }
+                    None => {
+                        self.stand = Stand::Wait;
+                        Ok(Move::Need)
+                    }
+                }
+            }
+            WordState::Map(by) => {
+                let len = chunk.len();
+                let made = mapped_of(*by, chunk);
+                self.stand = Stand::Gave;
+                Ok(Move::Emit(made))
+            }
             WordState::Collect(left) => {
-                let (left, plan) = collect(alloc, &mut self.list, left, &chunk)?;
-                self.state = WordState::Collect(left);
+                let (rest, plan) = collect(alloc, &mut self.list, *left, &chunk)?;
+                *left = rest;
                 let made = self.act(alloc, chunk, plan)?;
                 Ok(made)
             }
             _ => {
-                let (state, plan) = planned(alloc, self.state, &chunk)?;
-                self.state = state;
+                let plan = planned(alloc, &mut self.state, &chunk)?;
                 let made = self.act(alloc, chunk, plan)?;
                 Ok(made)
             }
@@ -209,7 +231,7 @@ impl ElemStage {
         ensures within { KeepsBounds self.new }
         ensures err { OnErr result (held_of self.new ≤ held_of (with_chunk chunk self.old)) }
     {
-        match self.state {
+        match &mut self.state {
             WordState::Pass => {
                 let len = chunk.len();
                 self.stand = Stand::Gave;
@@ -217,8 +239,8 @@ impl ElemStage {
             }
             WordState::Take(left) => {
                 let len = chunk.len();
-                if len as u64 <= left {
-                    self.state = WordState::Take(left - len as u64);
+                if len as u64 <= *left {
+                    *left -= len as u64;
                     self.stand = Stand::Gave;
                     return Ok(Move::Emit(chunk));
                 }
@@ -281,7 +303,7 @@ impl Stage for ElemStage {
     }
 
     fn held(&self) -> u64 {
-        let carried = match self.state {
+        let carried = match &self.state {
             WordState::Last(Some(_)) => 1,
             _ => 0,
         };
@@ -315,28 +337,31 @@ fn opposite_of(class: Class) -> Class
     }
 }
 
-fn state_of(word: ElemWord) -> WordState
-    ensures { result ≡ first_state word }
+fn state_of(alloc: Global, word: ElemWord) -> Result<WordState, NoMemory>
+    ensures { IfOk result (λ state. state ≡ first_state word) }
 {
     match word {
-        ElemWord::PassE => WordState::Pass,
-        ElemWord::TakeE(count) => WordState::Take(count),
-        ElemWord::TakeWhileE(class) => WordState::TakeWhile(class),
-        ElemWord::FilterE(class) => WordState::Filter(class),
-        ElemWord::MapE(by) => WordState::Map(by),
-        ElemWord::RepeatE(times) => WordState::Repeat(times),
-        ElemWord::DropE(count) => WordState::Drop(count),
-        ElemWord::DropWhileE(class) => WordState::DropWhile(class),
-        ElemWord::HeadE => WordState::Head,
-        ElemWord::PeekE => WordState::Peek,
-        ElemWord::LastE => WordState::Last(None),
-        ElemWord::LengthE => WordState::Length(0),
-        ElemWord::SumE => WordState::Sum(0),
-        ElemWord::AllE(class) => WordState::All(class, false),
-        ElemWord::AnyE(class) => WordState::All(opposite_of(class), true),
-        ElemWord::NullE => WordState::Null,
-        ElemWord::CollectE(count) => WordState::Collect(count),
-        ElemWord::SinkNull => WordState::SinkNull,
+        ElemWord::PassE => Ok(WordState::Pass),
+        ElemWord::TakeE(count) => Ok(WordState::Take(count)),
+        ElemWord::TakeWhileE(class) => Ok(WordState::TakeWhile(ClassTable::new(alloc, class)?)),
+        ElemWord::FilterE(class) => Ok(WordState::Filter(ClassTable::new(alloc, class)?)),
+        ElemWord::MapE(by) => Ok(WordState::Map(by)),
+        ElemWord::RepeatE(times) => Ok(WordState::Repeat(times)),
+        ElemWord::DropE(count) => Ok(WordState::Drop(count)),
+        ElemWord::DropWhileE(class) => Ok(WordState::DropWhile(ClassTable::new(alloc, class)?)),
+        ElemWord::HeadE => Ok(WordState::Head),
+        ElemWord::PeekE => Ok(WordState::Peek),
+        ElemWord::LastE => Ok(WordState::Last(None)),
+        ElemWord::LengthE => Ok(WordState::Length(0)),
+        ElemWord::SumE => Ok(WordState::Sum(0)),
+        ElemWord::AllE(class) => Ok(WordState::All(ClassTable::new(alloc, class)?, false)),
+        ElemWord::AnyE(class) => {
+            let table = ClassTable::new(alloc, opposite_of(class))?;
+            Ok(WordState::All(table, true))
+        }
+        ElemWord::NullE => Ok(WordState::Null),
+        ElemWord::CollectE(count) => Ok(WordState::Collect(count)),
+        ElemWord::SinkNull => Ok(WordState::SinkNull),
     }
 }
 
@@ -372,12 +397,13 @@ pub fn elem_stage(alloc: Global, word: &ElemWord, sort: Sort) -> Result<ElemStag
     ensures means { IfOk result (λ e. (z : Seen) (site : ℕ) (seen : Seen) (xs : List Item) (end : End)
         → (seen_stage e).run z xs end ≡ (word_meaning (words.Elem word.now)).run (Some sort) site seen xs end) }
 {
+    let state = state_of(alloc, *word)?;
     Ok(ElemStage {
         stand: Stand::Fresh,
         told: false,
         sort,
         most: most_of(*word),
-        state: state_of(*word),
+        state,
         list: list_of(alloc, sort),
         keep: None,
     })

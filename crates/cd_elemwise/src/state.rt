@@ -3,7 +3,8 @@ ghost use Rattle.std.specs.Prelude.{◌≡◌, [], ◌++◌, length, IfOk, OnOk,
 ghost use Rattle.cd_meaning.specs.Values.{value_meaning};
 ghost use Rattle.cd_elemwise.specs.Carried.{gathered, list_sort, list_value, single_plain, single_value};
 
-use cd_elem::{Boxed, ByteList, ByteMap, CharList, Class, NoMemory, Value};
+use crate::class_table::ClassTable;
+use cd_elem::{Boxed, ByteList, ByteMap, CharList, NoMemory, Value};
 use std::alloc::Global;
 use std::mem;
 
@@ -15,23 +16,23 @@ pub enum Single {
 }
 
 /// A word with what is left of its number, or what it carries beside a list.
-#[derive(Clone, Copy)]
+#[derive(Drop)]
 pub enum WordState {
     Pass,
     Take(u64),
-    TakeWhile(Class),
-    Filter(Class),
+    TakeWhile(ClassTable),
+    Filter(ClassTable),
     Map(ByteMap),
     Repeat(u64),
     Drop(u64),
-    DropWhile(Class),
+    DropWhile(ClassTable),
     Head,
     Peek,
     Last(Option<Single>),
     Length(u64),
     Sum(u64),
     /// It ends with this answer at the first element that is not in the class, and else with its opposite.
-    All(Class, bool),
+    All(ClassTable, bool),
     Null,
     Collect(u64),
     SinkNull,

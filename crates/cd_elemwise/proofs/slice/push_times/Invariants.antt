@@ -1,5 +1,0 @@
-use Rattle.std.proofs.Common.{◌≡◌, ◌++◌, replicate}
-use Rattle.cd_elemwise.proofs.slice.push_times.Given as goal
-
-abbrev pub invariant-loop : goal.invariant-loop
-invariant-loop g l = l.list.items ≡ l.initial.list.items ++ replicate l.counter l.item
