@@ -360,7 +360,8 @@ class Stopped(Exception):
 class Model:
     """The calls of a row's acts, over reads and writes of at most `cut` bytes, of which those of `fails` fail.
 
-    The acts say what is asked for and in which order; which calls these are is worked out here.
+    The acts say what is asked for and in which order; which calls these are is worked out here. What is put to a site
+    waits for the next call that is no write, or for another site, and is then written as one.
     """
 
     def __init__(self, row, cut, fails):
@@ -368,6 +369,7 @@ class Model:
         self.limit = int(row["words"][2]) if "--limit" in row["words"] else None
         self.counts, self.calls, self.journal, self.standing, self.out = {}, [], [], [], ""
         self.read, self.given, self.ended = {}, {}, set()
+        self.waiting, self.waits_for = "", None
 
     def fail(self, sort, site):
         """Counts a call, and tells whether it is one that fails."""
@@ -380,6 +382,7 @@ class Model:
         return failed
 
     def acquire(self, call, site):
+        self.write_out()
         if self.fail("open", site):
             raise Stopped(["AcquireFault", site])
         self.calls.append(f"{call} {self.names[site]}")
@@ -387,6 +390,7 @@ class Model:
         self.standing.append(site)
 
     def close(self, site, when):
+        self.write_out()
         self.standing.remove(site)
         failed = self.fail("close", site)
         self.calls += [] if failed else ["close"]
@@ -394,15 +398,22 @@ class Model:
         if failed:
             raise Stopped(["CloseFault", site])
 
-    def put(self, site, text):
+    def write_out(self):
+        text, self.waiting = self.waiting, ""
         while text:
-            if self.fail("write", site):
-                raise Stopped(["WriteFault", site])
+            if self.fail("write", self.waits_for):
+                raise Stopped(["WriteFault", self.waits_for])
             self.out += text[:self.cut]
             text = text[self.cut:]
 
+    def put(self, site, text):
+        if site != self.waits_for:
+            self.write_out()
+        self.waiting, self.waits_for = self.waiting + text, site
+
     def ask(self, site):
         """One read: some bytes, which are kept, or the end, at which the file is closed."""
+        self.write_out()
         given = self.given.get(site, 0)
         most = min(self.cut, 1 if given == self.limit else (self.limit or 1 << 20) - given)
         if self.fail("read", site):
@@ -417,7 +428,7 @@ class Model:
         self.read[site], self.given[site] = got, given + len(got)
 
     def take(self, site, count, to):
-        """Takes so many bytes, or all; those that were read are passed on before the next read."""
+        """Takes so many bytes, or all; those that were read are put before the next read."""
         left = 1 << 20 if count is None else count
         while left and site not in self.ended:
             if not self.read.get(site):
@@ -441,6 +452,7 @@ class Model:
         try:
             for act in self.row["acts"]:
                 self.act(*act)
+            self.write_out()
         except Stopped as stopped:
             cause = stopped.args[0]
         for site in reversed(self.standing[:]):

@@ -3,6 +3,7 @@ pub mod Chain
 pub mod RunEnd
 pub mod FileReads
 pub mod FileSteps
+pub mod Gathering
 pub mod Goes
 pub mod Infos
 pub mod MoveSteps

@@ -35,41 +35,64 @@ use Rattle.cd_run.specs.Ends.{Faulted}
 use Rattle.cd_run.specs.Statements.{left_run, within, behind}
 use Rattle.cd_run.specs.Paused.{Forgets, IsAtRead}
 use Rattle.cd_node.proofs.Held.{held_acquired}
+use Rattle.cd_scope.proofs.Further.{does_does}
+use Rattle.cd_run.specs.Gathers.{waits_on}
 use Rattle.cd_run.proofs.Steps.{going_same, stopped}
 use Rattle.cd_run.proofs.Goes.{moves_does, moves_outs, finishes, stuck_goes}
 
 -- ---- what is still to be done
 
+-- where the move is answered by a call that is no write, nothing waits
+none_on : (mv x : NodeMove) (ws wn : List Effect) → wn ≡ waits_on mv ws → mv ≡ x → waits_on x ws ≡ [] → wn ≡ []
+none_on mv x ws wn waits is none = waits ∙ ap (λ y. waits_on y ws) is ∙ none
+
 module _ {t : List Held} {left : List ℕ} (g : Setting) (m : Seen → Run) (k : Seen → Value → Run) (w0 w : Outside) (place : ℕ → Place) (p q : Part) (mv : NodeMove) (goes_by : GoesNode place mv p q)
-    (G : Going g m t left (within (left_run p) k) w0 w) where
-  made_ready : (es : List Effect) → Goes_on (map Do es) p q → Going g m t left (λ all z. does es (within (left_run q) k all z)) w0 w
-  made_ready es go = going_same g m t (within (left_run p) k) w0 w (λ all z. does es (within (left_run q) k all z)) (λ all z. moves_does es p q go z (k all)) G
+    (ws wn : List Effect) (waits : wn ≡ waits_on mv ws) (G : Going g m t left (λ all z. does wn (within (left_run p) k all z)) w0 w) where
+  none_before : (x : NodeMove) → mv ≡ x → waits_on x ws ≡ [] → Going g m t left (within (left_run p) k) w0 w
+  none_before x is none = subst (λ es. Going g m t left (λ all z. does es (within (left_run p) k all z)) w0 w) (none_on mv x ws wn waits is none) G
 
-  pub emits : (d : parts.Chunk) → mv ≡ Emit d → Going g m t left (within (left_run q) k) w0 w
-  emits d is = going_same g m t (within (left_run p) k) w0 w (within (left_run q) k) (λ all z. moves_outs (items d) p q (subst (λ x. GoesNode place x p q) is goes_by).1.goes z (k all)) G
+  made_ready : (x : NodeMove) → mv ≡ x → waits_on x ws ≡ [] → (es : List Effect) → Goes_on (map Do es) p q → Going g m t left (λ all z. does es (within (left_run q) k all z)) w0 w
+  made_ready x is none es go = going_same g m t (within (left_run p) k) w0 w (λ all z. does es (within (left_run q) k all z)) (λ all z. moves_does es p q go z (k all)) (none_before x is none)
 
-  pub needs : mv ≡ Need → Going g m t left (within (left_run q) k) w0 w
-  needs is = made_ready [] (subst (λ x. GoesNode place x p q) is goes_by).goes
+  pub emits : (d : parts.Chunk) → mv ≡ Emit d → Going g m t left (λ all z. does wn (within (left_run q) k all z)) w0 w
+  emits d is =
+      going_same g m t (λ all z. does wn (within (left_run p) k all z)) w0 w (λ all z. does wn (within (left_run q) k all z))
+      (λ all z. ap (does wn) (moves_outs (items d) p q (subst (λ x. GoesNode place x p q) is goes_by).1.goes z (k all))) G
+
+  pub needs : mv ≡ Need → Going g m t left (λ all z. does wn (within (left_run q) k all z)) w0 w
+  needs is =
+      going_same g m t (λ all z. does wn (within (left_run p) k all z)) w0 w (λ all z. does wn (within (left_run q) k all z))
+      (λ all z. ap (does wn) (moves_does [] p q (subst (λ x. GoesNode place x p q) is goes_by).goes z (k all))) G
 
   pub acquires : (s : Site) → mv ≡ Acquire s → Going g m t left (λ all z. does (Open s.0 ∷ []) (within (left_run q) k all z)) w0 w
-  acquires s is = made_ready (Open s.0 ∷ []) (subst (λ x. GoesNode place x p q) is goes_by).acts.goes
+  acquires s is = made_ready (Acquire s) is refl (Open s.0 ∷ []) (subst (λ x. GoesNode place x p q) is goes_by).acts.goes
 
   pub reads : (s : Site) (d : Descriptor) → mv ≡ Read s d → Going g m t left (within (left_run q) k) w0 w
-  reads s d is = made_ready [] (subst (λ x. GoesNode place x p q) is goes_by).goes
+  reads s d is = made_ready (Read s d) is refl [] (subst (λ x. GoesNode place x p q) is goes_by).goes
 
-  pub writes : (s : Site) (d : Descriptor) (c : parts.Chunk) → mv ≡ Write s d c → Going g m t left (λ all z. does (map (Put s.0) c.1) (within (left_run q) k all z)) w0 w
-  writes s d c is = made_ready (map (Put s.0) c.1) (subst (λ x. GoesNode place x p q) is goes_by).acts.goes
+  pub writes : (s : Site) (d : Descriptor) (c : parts.Chunk) → mv ≡ Write s d c → Going g m t left (λ all z. does (wn ++ map (Put s.0) c.1) (within (left_run q) k all z)) w0 w
+  writes s d c is =
+      let es = map (Put s.0) c.1 in
+      going_same g m t (λ all z. does wn (within (left_run p) k all z)) w0 w (λ all z. does (wn ++ es) (within (left_run q) k all z))
+      (λ all z. ap (does wn) (moves_does es p q (subst (λ x. GoesNode place x p q) is goes_by).acts.goes z (k all)) ∙ sym (does_does wn es (within (left_run q) k all z))) G
 
   pub releases : (ticket : Ticket) → mv ≡ Release ticket → Going g m t left (λ all z. does (Close ticket.site.0 ∷ []) (within (left_run q) k all z)) w0 w
-  releases ticket is = made_ready (Close ticket.site.0 ∷ []) (subst (λ x. GoesNode place x p q) is goes_by).acts.goes
+  releases ticket is = made_ready (Release ticket) is refl (Close ticket.site.0 ∷ []) (subst (λ x. GoesNode place x p q) is goes_by).acts.goes
 
   pub is_done : (v : Answer) (r : Option parts.Chunk) → mv ≡ IsDone v r → Going g m t left (behind (λ all. k all (value_meaning v))) w0 w
   is_done v r is = going_same g m t (within (left_run p) k) w0 w (behind (λ all. k all (value_meaning v)))
-      (λ all z. finishes (value_meaning v) (rest_items r) p z (k all) ((subst (λ x. GoesNode place x p q) is goes_by).finishes z)) G
+      (λ all z. finishes (value_meaning v) (rest_items r) p z (k all) ((subst (λ x. GoesNode place x p q) is goes_by).finishes z)) (none_before (IsDone v r) is refl)
 
   pub faults : (f : Node_fault) → mv ≡ HasFault f → Faulted g m (Decode f) t w0 w
   faults f is = stopped g m t (within (left_run p) k) w0 w (Decode f) (Stop (DecodeStop f)) (λ cs clean. clean) (λ cs all. all) (λ r cs same. same)
-      (λ all z. stuck_goes (Stop (DecodeStop f)) p z (k all) ((subst (λ x. GoesNode place x p q) is goes_by).stuck z)) G
+      (λ all z. stuck_goes (Stop (DecodeStop f)) p z (k all) ((subst (λ x. GoesNode place x p q) is goes_by).stuck z)) (none_before (HasFault f) is refl)
+
+-- nothing waits behind a call that is no write
+pub acquires_waits : (mv : NodeMove) (ws wn : List Effect) → wn ≡ waits_on mv ws → (s : Site) → mv ≡ Acquire s → wn ≡ []
+acquires_waits mv ws wn waits s is = none_on mv (Acquire s) ws wn waits is refl
+
+pub releases_waits : (mv : NodeMove) (ws wn : List Effect) → wn ≡ waits_on mv ws → (ticket : Ticket) → mv ≡ Release ticket → wn ≡ []
+releases_waits mv ws wn waits ticket is = none_on mv (Release ticket) ws wn waits is refl
 
 -- ---- the measure
 

@@ -1,4 +1,5 @@
 pub mod Ends
+pub mod Gathers
 pub mod Going
 pub mod Paused
 pub mod Ran

@@ -9,27 +9,55 @@ ghost use Rattle.cd_step.specs.Parts.{Fresh};
 ghost use Rattle.cd_scope.specs.declared.table.Held.{Held as HeldItem};
 ghost use Rattle.cd_scope.specs.Due.{Setting};
 ghost use Rattle.cd_scope.specs.State.{held_in, room_in};
-ghost use Rattle.cd_scope.specs.Table.{IsOpen};
+ghost use Rattle.cd_scope.specs.Table.{IsHeldBy, IsOpen};
 ghost use Rattle.cd_node.specs.Nodes.{AnswersNode, AreHeld, fed_node};
+ghost use Rattle.cd_node.specs.declared.protocol.NodeMove.TheVariants as moves;
 ghost use Rattle.cd_run.specs.Ends.{HasFault};
 ghost use Rattle.cd_run.specs.Going.{Outside, Going, outside, places_of};
 ghost use Rattle.cd_run.specs.Paused.{IsPaused, PausedAt, PausedSpends, Forgets, StillForgets};
 ghost use Rattle.cd_run.specs.Statements.{IsLocal, OpensAtMost, RunTo, left_run, within};
 
+use crate::buffers::Buffers;
 use crate::calls::{acquire, release};
 use crate::fault::RunFault;
 use crate::node::StatementNode;
 use crate::read::read_site;
-use crate::write::write_chunk;
 use cd_elem::{Chunk, Site, Value};
 use cd_node::{NodeInput, NodeMove};
-use cd_scope::Scope;
+use cd_scope::{Scope, Ticket};
 use cd_typed::SiteInfo;
 use cd_world::{Descriptor, World};
 use std::alloc::Global;
 
 /// What a statement gives goes nowhere: it has no output, and no input to give back.
 fn discard(_chunk: Option<Chunk>) {}
+
+/// Lets a move go that is not made, and leaves its ticket to the scope.
+fn abandon_move(made: NodeMove, scope: &mut Scope)
+    requires { (ticket : Ticket) → made ≡ moves.Release ticket → IsHeldBy ticket (held_in scope.old) }
+    ensures { scope.new ≡ scope.old }
+{
+    match made {
+        NodeMove::Release(ticket) => scope.leave(ticket),
+        NodeMove::Emit(chunk) => drop(chunk),
+        NodeMove::Write {
+            site: _site,
+            descriptor: _descriptor,
+            chunk,
+        } => drop(chunk),
+        NodeMove::Done { value, rest } => {
+            drop(value);
+            drop(rest);
+        }
+        NodeMove::Need => {}
+        NodeMove::Acquire(_site) => {}
+        NodeMove::Read {
+            site: _site,
+            descriptor: _descriptor,
+        } => {}
+        NodeMove::Fault(_fault) => {}
+    }
+}
 
 /// Where a statement stands: it waits for a site, with its descriptor, or has ended.
 pub enum Pause {
@@ -44,6 +72,7 @@ fn advance<W: World, N: StatementNode>(
     world: &mut W,
     sites: &[SiteInfo],
     scope: &mut Scope,
+    buffers: &mut Buffers,
     first: NodeInput,
 ) -> Result<Pause, RunFault>
     requires well { N.well node.old }
@@ -67,11 +96,19 @@ fn advance<W: World, N: StatementNode>(
         → (m : Seen → Run) (left : List ℕ) (k : Seen → Answer → Run) (w0 : Outside) → Going g m (held_in scope.old) left (within (left_run (fed_node first (N.seen node.old))) k) w0 (outside (W.log world.old) (W.files world.old))
         → PausedAt g m result (held_in scope.new) left (N.seen node.new) k w0 (outside (W.log world.new) (W.files world.new)) }
 {
+    buffers.gathered.clear();
     let mut input = first;
     loop {
         let Ok(made) = node.step(alloc, input) else {
             return Err(RunFault::NoMemory);
         };
+        match buffers.gathered.write_before(world, &made) {
+            Ok(()) => {}
+            Err(fault) => {
+                abandon_move(made, scope);
+                return Err(fault);
+            }
+        }
         input = match made {
             NodeMove::Emit(chunk) => {
                 discard(Some(chunk));
@@ -87,7 +124,7 @@ fn advance<W: World, N: StatementNode>(
                 site,
                 descriptor,
                 chunk,
-            } => match write_chunk(world, site, descriptor, chunk) {
+            } => match buffers.put(world, site, descriptor, chunk) {
                 Ok(()) => NodeInput::Wrote,
                 Err(fault) => return Err(fault),
             },
@@ -111,6 +148,7 @@ fn run_to_end<W: World, N: StatementNode>(
     world: &mut W,
     sites: &[SiteInfo],
     scope: &mut Scope,
+    buffers: &mut Buffers,
     left: &mut [u64],
     size: usize,
 ) -> Result<Value, RunFault>
@@ -135,7 +173,7 @@ fn run_to_end<W: World, N: StatementNode>(
 {
     let mut input = NodeInput::Start;
     loop {
-        let pause = match advance(alloc, node, world, sites, scope, input) {
+        let pause = match advance(alloc, node, world, sites, scope, buffers, input) {
             Ok(pause) => pause,
             Err(fault) => return Err(fault),
         };
@@ -143,7 +181,15 @@ fn run_to_end<W: World, N: StatementNode>(
             Pause::Waits(site, descriptor) => (site, descriptor),
             Pause::Done(value) => return Ok(value),
         };
-        input = match read_site(alloc, world, left, site, descriptor, size) {
+        input = match read_site(
+            alloc,
+            world,
+            &mut buffers.lists,
+            left,
+            site,
+            descriptor,
+            size,
+        ) {
             Ok(told) => told,
             Err(fault) => return Err(fault),
         };
@@ -158,6 +204,7 @@ pub fn run_node<W: World, N: StatementNode>(
     world: &mut W,
     sites: &[SiteInfo],
     scope: &mut Scope,
+    buffers: &mut Buffers,
     left: &mut [u64],
     size: usize,
 ) -> Result<Value, RunFault>
@@ -180,7 +227,7 @@ pub fn run_node<W: World, N: StatementNode>(
         → RunTo g m result (held_in scope.new) left.new k w0 (outside (W.log world.new) (W.files world.new)) }
 {
     let mut node = node;
-    let answer = run_to_end(alloc, &mut node, world, sites, scope, left, size);
+    let answer = run_to_end(alloc, &mut node, world, sites, scope, buffers, left, size);
     node.abandon(scope);
     answer
 }

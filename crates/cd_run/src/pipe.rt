@@ -20,6 +20,7 @@ ghost use Rattle.cd_run.specs.Ends.{HasFault, MovedOn};
 ghost use Rattle.cd_run.specs.Going.{Outside, Going, outside};
 ghost use Rattle.cd_run.specs.Statements.{IsSiteOf, RunsWithin, behind};
 
+use crate::buffers::Buffers;
 use crate::drive::run_node;
 use crate::fault::RunFault;
 use crate::print::print_value;
@@ -36,6 +37,7 @@ pub fn run_pipe<W: World>(
     world: &mut W,
     typed: &Typed,
     scope: &mut Scope,
+    buffers: &mut Buffers,
     left: &mut [u64],
     size: usize,
     statement: u32,
@@ -58,7 +60,7 @@ pub fn run_pipe<W: World>(
         return Err(RunFault::NoMemory);
     };
     let sites = typed.sites().as_slice();
-    let value = match run_node(alloc, node, world, sites, scope, left, size) {
+    let value = match run_node(alloc, node, world, sites, scope, buffers, left, size) {
         Ok(value) => value,
         Err(fault) => return Err(fault),
     };

@@ -18,18 +18,12 @@ ghost use Rattle.cd_run.specs.Going.{Outside, Going, outside};
 ghost use Rattle.cd_run.specs.Paused.{AnyFalls, IsTelling, ReadOn};
 ghost use Rattle.cd_run.specs.Statements.{within, left_run};
 
+use crate::buffers::Lists;
 use crate::fault::RunFault;
 use cd_elem::{Chunk, Items, Site};
 use cd_node::NodeInput;
 use cd_world::{Descriptor, World, WorldError};
-use std::alloc::{AllocError, Global};
-
-/// A buffer of this size.
-fn buffer_of(alloc: Global, size: usize) -> Result<Vec<u8>, AllocError>
-    ensures { IfOk result (λ buffer. length buffer.items ≡ size) }
-{
-    vec![in alloc; 0u8; size]
-}
+use std::alloc::Global;
 
 /// How many bytes to ask for, where so many may still be read and one more: at the limit one, to learn whether there is
 /// one past it.
@@ -53,6 +47,7 @@ fn room(more: u64, size: usize) -> usize
 pub fn read_site<W: World>(
     alloc: Global,
     world: &mut W,
+    lists: &mut Lists,
     left: &mut [u64],
     site: Site,
     from: Descriptor,
@@ -72,21 +67,22 @@ pub fn read_site<W: World>(
         → ReadOn g m result t left.new q k w0 (outside (W.log world.new) (W.files world.new)) }
 {
     let more = left[site.0 as usize];
-    let Ok(mut buffer) = buffer_of(alloc, room(more, size)) else {
+    let Ok(mut list) = lists.to_fill(alloc, room(more, size)) else {
         return Err(RunFault::NoMemory);
     };
-    match world.read(from, &mut buffer) {
+    match world.read(from, &mut list) {
         Ok(count) => {
             if count == 0 {
                 left[site.0 as usize] = 0;
+                lists.keep(list);
                 return Ok(NodeInput::GaveEnd);
             }
             if more == 1 {
                 return Err(RunFault::TooLong { site });
             }
-            buffer.truncate(count);
             left[site.0 as usize] = more - count as u64;
-            Ok(NodeInput::Gave(Chunk::bytes_of(Items::from_vec(buffer))))
+            let items = lists.given(alloc, list, count);
+            Ok(NodeInput::Gave(Chunk::bytes_of(Items::from_vec(items))))
         }
         Err(WorldError::Failed) => Err(RunFault::ReadFault { site }),
         Err(WorldError::NoMemory) => Err(RunFault::NoMemory),

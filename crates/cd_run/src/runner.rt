@@ -24,6 +24,7 @@ ghost use Rattle.cd_run.specs.Ran.{Ran, RoseAtEnd, done};
 ghost use Rattle.cd_run.specs.Runners.{AreOptions};
 ghost use Rattle.cd_run.specs.Statements.{Holds, IsSiteOf, behind};
 
+use crate::buffers::Buffers;
 use crate::calls::{hold, release_key};
 use crate::ending::{Ended, finish};
 use crate::fault::RunFault;
@@ -46,6 +47,7 @@ pub struct Runner<'a> {
     left: Vec<u64>,
     // the sites of the keys, by their numbers
     keys: Vec<Site>,
+    buffers: Buffers,
 }
 
 /// How many bytes may be read of each site, and one more.
@@ -83,6 +85,7 @@ impl<'a> Runner<'a> {
         let sites = typed.sites().as_slice().len();
         let left = limits(alloc, sites, options.limit)?;
         let keys = no_keys(alloc, typed.keys())?;
+        let buffers = Buffers::new(alloc)?;
         let scope = Scope::new(alloc, sites as u32)?;
         Ok(Runner {
             typed,
@@ -90,6 +93,7 @@ impl<'a> Runner<'a> {
             scope,
             left,
             keys,
+            buffers,
         })
     }
 
@@ -120,6 +124,7 @@ impl<'a> Runner<'a> {
             world,
             self.typed,
             &mut self.scope,
+            &mut self.buffers,
             &mut self.left,
             self.options.chunk as usize,
             statement,
@@ -196,6 +201,7 @@ impl<'a> Runner<'a> {
             scope,
             left: _,
             keys: _,
+            buffers: _,
         } = self;
         finish(world, scope, answer)
     }

@@ -1,6 +1,6 @@
 // Writes of a site.
 ghost use Rattle.std.specs.Prelude.{◌≡◌, ◌⊎◌, ℕ, List, map, Contains, IsTrue};
-ghost use Rattle.cd_meaning.specs.Stream.{Put, Sort};
+ghost use Rattle.cd_meaning.specs.Stream.{Put};
 ghost use Rattle.cd_world.specs.declared.event.Use.TheVariants.{Writing};
 ghost use Rattle.cd_world.specs.Live.{Open, IsLive};
 ghost use Rattle.cd_scope.specs.declared.table.Held.{Held};
@@ -12,7 +12,7 @@ ghost use Rattle.cd_run.specs.Ends.{HasFault, Moves};
 ghost use Rattle.cd_run.specs.Going.{outside};
 
 use crate::fault::RunFault;
-use cd_elem::{Chunk, Site};
+use cd_elem::Site;
 use cd_world::{Descriptor, World, WorldError};
 
 /// Writes all of these bytes of a site.
@@ -37,24 +37,4 @@ pub fn write_all<W: World>(
         }
     }
     Ok(())
-}
-
-/// Writes all of a chunk of bytes.
-pub fn write_chunk<W: World>(
-    world: &mut W,
-    site: Site,
-    to: Descriptor,
-    chunk: Chunk,
-) -> Result<(), RunFault>
-    requires bytes { chunk.0 ≡ Sort.Bytes }
-    requires writable { (to.0 ≡ 1) ⊎ IsLive Writing to (W.live world.old) }
-    ensures live { W.live world.new ≡ W.live world.old }
-    ensures cause { HasFault (W.faults world.old) (W.faults world.new) result }
-    ensures told { IsTrue W.tells_log → (g : Setting) (base : List Open) (t : List Held) → g.tells ≡ W.tells_files → IsOpen g.place base t (W.live world.old) → WritesAt (g.place site.0) to.0 (Contains t (held_at site.0 to))
-        → Moves g t t result (map (Put site.0) chunk.1) (outside (W.log world.old) (W.files world.old)) (outside (W.log world.new) (W.files world.new)) }
-{
-    match chunk.as_bytes() {
-        Some(bytes) => write_all(world, site, to, bytes),
-        None => unreachable!(),
-    }
 }

@@ -4,7 +4,7 @@ use crate::lines::StepError;
 use crate::sites::{Member, site_of, world_of};
 use cd_elem::CHUNK_LIMIT;
 use cd_node::sound_leaves;
-use cd_run::{Ended, finish, run_node};
+use cd_run::{Buffers, Ended, finish, run_node};
 use cd_scope::Scope;
 use cd_world::{Event, Fail, MemoryWorld};
 use std::alloc::Global;
@@ -70,10 +70,20 @@ pub fn drive(
     let mut world = world_of(alloc, &[member])?;
     let sites = [site_of(alloc, use_of(word), "f")?];
     let mut left = [limit + 1, limit + 1];
+    let mut buffers = Buffers::new(alloc)?;
     let mut scope = Scope::new(alloc, 1)?;
     sound_leaves();
     let leaf = Leaf::new(word, &sites[0]);
-    let answer = run_node(alloc, leaf, &mut world, &sites, &mut scope, &mut left, size);
+    let answer = run_node(
+        alloc,
+        leaf,
+        &mut world,
+        &sites,
+        &mut scope,
+        &mut buffers,
+        &mut left,
+        size,
+    );
     let ended = finish(&mut world, scope, answer.map(drop));
     match calls_of(alloc, &world) {
         Ok(calls) => Ok(Driven { ended, calls }),

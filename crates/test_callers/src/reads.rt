@@ -9,7 +9,7 @@ ghost use Rattle.cd_run.specs.Paused.{IsTelling};
 use crate::given::Given;
 use cd_elem::{CHUNK_LIMIT, Site};
 use cd_node::NodeInput;
-use cd_run::{RunFault, read_site};
+use cd_run::{Lists, RunFault, read_site};
 use cd_world::{Descriptor, MemoryWorld};
 use std::alloc::Global;
 
@@ -53,7 +53,16 @@ impl<'a> Reads<'a> {
             Some(more) if *more > 0 => {}
             _ => return Ok(None),
         }
-        let told = read_site(alloc, world, &mut self.left, site, from, self.size)?;
+        let mut lists = Lists::new(alloc);
+        let told = read_site(
+            alloc,
+            world,
+            &mut lists,
+            &mut self.left,
+            site,
+            from,
+            self.size,
+        )?;
         Ok(Some(told))
     }
 }

@@ -1,7 +1,9 @@
 // Trees in a scope over a world in memory, with a line for each input and each move.
-ghost use Rattle.std.specs.Prelude.{◌≡◌, ◌<◌, ◌≤◌, ◌+◌, ℕ, List, IfOk};
+ghost use Rattle.std.specs.Prelude.{◌≡◌, ◌⊎◌, ◌<◌, ◌≤◌, ◌+◌, ℕ, List, IfOk};
 ghost use Rattle.cd_step.specs.Parts.{Kept, Part};
-ghost use Rattle.cd_world.specs.Live.{Open};
+ghost use Rattle.cd_meaning.specs.Stream.{Sort};
+ghost use Rattle.cd_world.specs.declared.event.Use.TheVariants.{Writing};
+ghost use Rattle.cd_world.specs.Live.{IsLive, Open};
 ghost use Rattle.cd_world.specs.Memory.{live_in};
 ghost use Rattle.cd_scope.specs.State.{held_in, room_in};
 ghost use Rattle.cd_scope.specs.Table.{IsOpen};
@@ -20,11 +22,12 @@ use crate::node_lines::{push_given, push_made, push_site};
 use crate::reads::Reads;
 use crate::sites::{Member, world_of};
 use crate::trees::{Tree, tree_of};
+use cd_elem::{Chunk, Site};
 use cd_node::{Node, NodeInput, NodeMove, held_tickets};
-use cd_run::{RunFault, acquire, print_value, release, write_chunk};
+use cd_run::{RunFault, acquire, print_value, release, write_all};
 use cd_scope::{Finished, Scope};
 use cd_typed::SiteInfo;
-use cd_world::MemoryWorld;
+use cd_world::{Descriptor, MemoryWorld};
 use std::alloc::Global;
 
 /// How a tree is given up that has not ended.
@@ -83,6 +86,23 @@ fn refused(text: &mut String, fault: RunFault) -> StepError {
     match told.and(text.push_str("\n").map_err(StepError::from)) {
         Ok(()) => StepError::Refused,
         Err(error) => error,
+    }
+}
+
+/// Writes all of a chunk of bytes by itself.
+fn write_chunk(
+    world: &mut MemoryWorld,
+    site: Site,
+    to: Descriptor,
+    chunk: Chunk,
+) -> Result<(), RunFault>
+    requires bytes { chunk.0 ≡ Sort.Bytes }
+    requires writable { (to.0 ≡ 1) ⊎ IsLive Writing to (live_in world.old) }
+    ensures live { live_in world.new ≡ live_in world.old }
+{
+    match chunk.as_bytes() {
+        Some(bytes) => write_all(world, site, to, bytes),
+        None => unreachable!(),
     }
 }
 

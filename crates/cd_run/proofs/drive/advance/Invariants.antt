@@ -11,6 +11,8 @@ use Rattle.cd_scope.specs.Due.{Setting}
 use Rattle.cd_scope.specs.State.{held_in, room_in}
 use Rattle.cd_scope.specs.Table.{IsOpen}
 use Rattle.cd_node.specs.Nodes.{AnswersNode, AreHeld, fed_node}
+use Rattle.cd_scope.specs.Calls.{does}
+use Rattle.cd_run.specs.Gathers.{IsFor, waiting}
 use Rattle.cd_run.specs.Going.{Outside, Going, outside, places_of}
 use Rattle.cd_run.specs.Paused.{Forgets}
 use Rattle.cd_run.specs.Statements.{Spends, within, left_run}
@@ -23,6 +25,7 @@ invariant-loop-made g l = record {
   sites : (g.N.StatementNode.seen l.node).sites ≡ (g.N.StatementNode.seen l.initial.node).sites;
   stands : g.N.StatementNode.stands l.node (places_of l.sites);
   held : AreHeld (held_in l.scope) (fed_node l.input (g.N.StatementNode.seen l.node));
+  waits : IsFor (places_of l.sites) (held_in l.scope) l.buffers.gathered;
   stays : (h : Held) → (g.N.StatementNode.seen l.initial.node).sites h.site.0 ≡ false → Contains (held_in l.initial.scope) h → Contains (held_in l.scope) h;
   room : Spends (fed_node l.initial.input (g.N.StatementNode.seen l.initial.node)) (room_in l.initial.scope) (fed_node l.input (g.N.StatementNode.seen l.node)) (room_in l.scope);
   calm : g.W.World.faults l.world ≡ g.W.World.faults l.initial.world;
@@ -31,7 +34,7 @@ invariant-loop-made g l = record {
   told : IsTrue g.W.World.tells_log → (s : Setting) (base : List Open) → s.place ≡ places_of l.sites → s.tells ≡ g.W.World.tells_files → IsOpen (places_of l.sites) base (held_in l.initial.scope) (g.W.World.live l.initial.world)
       → (m : Seen → Run) (left : List ℕ) (k : Seen → Answer → Run) (w0 : Outside)
       → Going s m (held_in l.initial.scope) left (within (left_run (fed_node l.initial.input (g.N.StatementNode.seen l.initial.node))) k) w0 (outside (g.W.World.log l.initial.world) (g.W.World.files l.initial.world))
-      → Going s m (held_in l.scope) left (within (left_run (fed_node l.input (g.N.StatementNode.seen l.node))) k) w0 (outside (g.W.World.log l.world) (g.W.World.files l.world));
+      → Going s m (held_in l.scope) left (λ all z. does (waiting l.buffers.gathered) (within (left_run (fed_node l.input (g.N.StatementNode.seen l.node))) k all z)) w0 (outside (g.W.World.log l.world) (g.W.World.files l.world));
 }
 
 abbrev pub decreases-loop-made : goal.decreases-loop-made

@@ -38,7 +38,7 @@ returns-then-more-eq1-clause-told g c = λ tells s base t q same size o open_at 
 pub returns-in-Ok-read-clause-told : goal.returns-in-Ok-read-clause-told
 returns-in-Ok-read-clause-told g c = λ tells s base t q same size o open_at at stops m k w0 go.
     given s m k w0 (outside (g.W.World.log c.args.world.now) (g.W.World.files c.args.world.now)) (outside (g.W.World.log c.read.new.self) (g.W.World.files c.read.new.self)) c.args.site c.args.from q at stops open_at c.requires.within c.requires.more go (slice_set c.args.left.now c.args.site.0 (get_or c.args.left.now c.args.site.0 0 - c.in-Ok-read.count)) c.bytes_of.result (take c.in-Ok-read.count c.read.new.into)
-    (ap (λ (x : Chunk). x.1) c.bytes_of.ensures ∙ c.from_vec.ensures ∙ c.truncate.ensures.items ∙ front_back c.in-Ok-read.count c.in-Ok.buffer.len c.read.new.into _ c.in-Ok-read.ensures.within (omega (arith, c.read.auto.into, c.deref_mut.ensures.len, c.in-Ok-read.ensures.within)))
+    (ap (λ (x : Chunk). x.1) c.bytes_of.ensures ∙ c.from_vec.ensures ∙ c.given-items.ensures ∙ front_back c.in-Ok-read.count c.in-Ok.list.len c.read.new.into _ c.in-Ok-read.ensures.within (omega (arith, c.read.auto.into, c.deref_mut.ensures.len, c.in-Ok-read.ensures.within)))
     (c.in-Ok-read.ensures.log tells ∙ ap (λ (l : List Event). g.W.World.log c.args.world.now ++ l) (lists_some _ _ c.in-Ok-read.count c.if-count-eq0.false))
     (omega (arith, c.in-Ok-read.ensures.within, c.if-count-eq0.false, c.read.auto.into, c.deref_mut.ensures.len, c.in-Ok.ensures, length-take c.in-Ok-read.count c.read.new.into)) (omega (arith, c.in-Ok-read.ensures.within, c.if-count-eq0.false, c.read.auto.into, c.deref_mut.ensures.len, c.in-Ok.ensures, length-take c.in-Ok-read.count c.read.new.into, size, c.room.ensures.some.1))
     (omega (arith, c.in-Ok-read.ensures.within, c.if-count-eq0.false, c.read.auto.into, c.deref_mut.ensures.len, c.in-Ok.ensures, length-take c.in-Ok-read.count c.read.new.into, (let first = c.requires.more in let other = c.if-more-eq1.false in c.room.ensures.within (omega (arith, first, other))), set_here c.args.left.now c.args.site.0 (get_or c.args.left.now c.args.site.0 0 - c.in-Ok-read.count) c.requires.within))
