@@ -51,7 +51,7 @@ row '`takeE 5`' take '> /dev/null' 'head -c 5 big > /dev/null'
 row '`lengthE`' length '> /dev/null' 'cat big | wc -c > /dev/null'
 row '`filterE not space`' filter '> /dev/null' "tr -d '[:space:]' < big > /dev/null"
 row '`mapE rot13`' map '> /dev/null' 'tr A-Za-z N-ZA-Mn-za-m < big > /dev/null'
-row '`stdin | passE | stdout`, three in a pipe' pass "< big | $conduit run pass | $conduit run pass > /dev/null" 'cat < big | cat | cat > /dev/null'
+row '`stdin \| passE \| stdout`, three in a pipe' pass "< big | $conduit run pass | $conduit run pass > /dev/null" 'cat < big | cat | cat > /dev/null'
 row 'five `passE`' five '> /dev/null' "$conduit run copy > /dev/null"
 row '`repeatE 2`' repeat '> /dev/null' "$conduit run twice > /dev/null"
 

@@ -2,7 +2,7 @@
 """Time shell lines in turn, or watch the memory of one.
 
 usage: timed.py time RUNS LINE..    the milliseconds of the best of so many runs of each line, a line each
-       timed.py memory NAME LINE    the greatest resident memory of a process of this name below the line, in KiB
+       timed.py memory NAME LINE    the greatest resident memory of a process of this name, while the line runs, in KiB
 
 The lines take turns, so that what else the machine does comes to all of them.
 """
@@ -33,10 +33,12 @@ def best_times(runs, lines):
     return best
 
 
-def peak_of(name):
-    """The greatest resident memory so far of the processes of this name that run, in KiB."""
+def peak_of(name, first):
+    """The greatest resident memory so far of the processes of this name from this number on, in KiB."""
     peak = 0
-    for process in filter(str.isdigit, os.listdir("/proc")):
+    for process in map(int, filter(str.isdigit, os.listdir("/proc"))):
+        if process < first:
+            continue
         try:
             with open(f"/proc/{process}/status", encoding="utf-8") as file:
                 status = file.read()
@@ -49,12 +51,15 @@ def peak_of(name):
 
 
 def greatest_memory(name, line):
-    process, peak = run(line), 0
-    while process.poll() is None:
-        peak = max(peak, peak_of(name))
-        time.sleep(0.002)
-    ended_well(process, line)
-    return peak
+    """Of all runs of the line that begin within a second: a short one is not seen each time."""
+    peak, end = 0, time.perf_counter() + 1
+    while True:
+        process = run(line)
+        while process.poll() is None:
+            peak = max(peak, peak_of(name, process.pid))
+        ended_well(process, line)
+        if time.perf_counter() >= end:
+            return peak
 
 
 def main():
