@@ -56,6 +56,8 @@ impl Node {
         Ok(made)
     }
 
+    /// It stands in its callers, so that a word in a pair is stepped without a call of its own.
+    #[inline(always)]
     #[cycle(drive)]
     fn advance(&mut self, alloc: Global, input: NodeInput) -> Result<NodeMove, NoMemory>
         requires well { IsWell self.old }
@@ -331,6 +333,7 @@ fn step_marked(
 }
 
 /// The node whose turn it is steps, and the controller hears of its move, unless it is for a site.
+#[inline(always)]
 #[cycle(drive)]
 fn take_turn(
     alloc: Global,

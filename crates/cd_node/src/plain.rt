@@ -17,6 +17,7 @@ pub(crate) enum Said {
     Site(NodeMove),
 }
 
+#[inline(always)]
 pub(crate) fn hear(input: NodeInput) -> Heard
     ensures { IsHeard input result }
 {
@@ -33,6 +34,7 @@ pub(crate) fn hear(input: NodeInput) -> Heard
     }
 }
 
+#[inline(always)]
 pub(crate) fn say(made: NodeMove) -> Said
     ensures { IsSaid made result }
 {
@@ -57,6 +59,7 @@ pub(crate) fn say(made: NodeMove) -> Said
 }
 
 /// What a part without sites is given.
+#[inline(always)]
 pub(crate) fn plain(input: NodeInput) -> Input
     requires { IsPlain input }
     ensures { input ≡ input_seen result }
@@ -67,6 +70,7 @@ pub(crate) fn plain(input: NodeInput) -> Input
     }
 }
 
+#[inline(always)]
 pub(crate) fn node_input(input: Input) -> NodeInput
     ensures { result ≡ input_seen input }
 {
@@ -78,6 +82,7 @@ pub(crate) fn node_input(input: Input) -> NodeInput
     }
 }
 
+#[inline(always)]
 pub(crate) fn node_move(made: Move) -> NodeMove
     ensures { result ≡ move_seen made }
 {

@@ -29,6 +29,7 @@ pub(crate) enum Turned {
     Asks(Side, NodeMove),
 }
 
+#[inline(always)]
 pub(crate) fn node_turn(turn: Turn) -> NodeTurn
     ensures { result ≡ turn_seen turn }
 {
@@ -39,6 +40,7 @@ pub(crate) fn node_turn(turn: Turn) -> NodeTurn
 }
 
 /// The controller begins, with a copy of the chunk where it wants one.
+#[inline(always)]
 fn begin(alloc: Global, control: &mut PairControl, input: Input) -> Result<NodeTurn, NoMemory>
     ensures law { IfOk result (λ turn. (a b : Part) → IsSound a → IsSound b → pair_is_at control.old a b → Answers (whole_pair control.old a b) input
         → NodeTurnLaw (fed input (whole_pair control.old a b)) turn control.new a b) }
@@ -53,6 +55,7 @@ fn begin(alloc: Global, control: &mut PairControl, input: Input) -> Result<NodeT
     }
 }
 
+#[inline(always)]
 fn answer_to(side: Side, answer: NodeInput) -> NodeTurn
     ensures { result ≡ turn_of side answer }
 {
@@ -63,6 +66,7 @@ fn answer_to(side: Side, answer: NodeInput) -> NodeTurn
 }
 
 /// The first turn of a step. The answer of a site goes to the node that is out.
+#[inline(always)]
 pub(crate) fn first(
     alloc: Global,
     control: &mut PairControl,
