@@ -13,3 +13,4 @@ pub mod Tickets
 pub mod Trees
 pub mod Turning
 pub mod Words
+pub mod WordStages

@@ -8,6 +8,12 @@ use Rattle.cd_elemwise.specs.declared.stage.ElemStage.{ElemStage}
 use Rattle.cd_elemwise.specs.Stages.{StandFits, seen_stage, stage_fits}
 use Rattle.cd_elemwise.specs.Carried.{gathered}
 use Rattle.cd_elemwise.proofs.StageLaws.{within_held}
+use Rattle.cd_pieces.specs.declared.literals.LiteralStage.{LiteralStage}
+use Rattle.cd_pieces.specs.declared.stage.PieceStage.{PieceStage}
+use Rattle.cd_pieces.specs.LiteralStages.{seen_literal}
+use Rattle.cd_pieces.specs.Stages as pieces
+use Rattle.cd_pieces.proofs.LiteralLaws.{literal_held}
+use Rattle.cd_pieces.proofs.StageLaws.{well_held}
 use Rattle.cd_fuse.specs.declared.fuse.Fuse.{Fuse}
 use Rattle.cd_fuse.specs.declared.follow.Follow.{Follow}
 use Rattle.cd_fuse.specs.Fuses.{whole_fuse, fuse_is_at, IsFuseIn}
@@ -36,6 +42,14 @@ elem_unstarted e f h =
     let s = subst (λ x. StandFits x e.told e.sort e.state (gathered e.list) e.keep) (stand_fresh e.stand h) f.0 in
     record { unbegun = record { is_at = h; floor = rw s.0 refl; unread = rw (s.0, s.1) refl }; no_ticket = λ s d. refl; held = within_held e f.2 }
 
+pub piece_unstarted : (e : PieceStage) → pieces.stage_fits e → (pieces.seen_stage e).at ≡ Fresh → IsUnstarted (pieces.seen_stage e)
+piece_unstarted e f h =
+    let s = subst (λ x. pieces.StandFits x e.told e.due e.state) (stand_fresh e.stand h) f.0 in
+    record { unbegun = record { is_at = h; floor = rw s.0 refl; unread = rw s.0 refl }; no_ticket = λ s d. refl; held = well_held e f.1 }
+
+pub literal_unstarted : (e : LiteralStage) → (seen_literal e).at ≡ Fresh → IsUnstarted (seen_literal e)
+literal_unstarted e h = record { unbegun = record { is_at = h; floor = refl; unread = refl }; no_ticket = λ s d. refl; held = literal_held e }
+
 pub source_unstarted : (l : Source) → (seen_source l).at ≡ Fresh → HasNoTicket (seen_source l) → IsUnstarted (seen_source l)
 source_unstarted l h k = record { unbegun = record { is_at = h; floor = refl; unread = refl }; no_ticket = k; held = omega arith }
 
@@ -55,35 +69,35 @@ sink_unstarted l h k =
 -- ---- wholes
 
 pub pair_seen : (c : PairControl) (a b n : Node) → IsPairOf c a b n → seen n ≡ whole_pair c (seen a) (seen b)
-pair_seen c a b (node.Elem e) h = absurd h
+pair_seen c a b (node.Word e) h = absurd h
 pair_seen c a b (node.Source l) h = absurd h
 pair_seen c a b (node.Sink l) h = absurd h
 pair_seen c a b (Marked' m p n1) h = absurd h
 pair_seen c a b (Pair' c1 out p a1 q b1) h = rw (h.0, h.1, h.2, h.3) refl
 
 pub pair_well : (c : PairControl) (a b n : Node) → IsPairOf c a b n → IsWell a → IsWell b → pair_is_at c (seen a) (seen b) → IsHeld (whole_pair c (seen a) (seen b)) → IsWell n
-pair_well c a b (node.Elem e) h wa wb i y = absurd h
+pair_well c a b (node.Word e) h wa wb i y = absurd h
 pair_well c a b (node.Source l) h wa wb i y = absurd h
 pair_well c a b (node.Sink l) h wa wb i y = absurd h
 pair_well c a b (Marked' m p n1) h wa wb i y = absurd h
 pair_well c a b (Pair' c1 out p a1 q b1) h wa wb i y = rw (h.0, h.1, h.2, h.3) (wa, wb, i, y)
 
 pub pair_bound : (c : PairControl) (a b n : Node) → IsPairOf c a b n → bound_of n ≡ bound_of a + bound_of b
-pair_bound c a b (node.Elem e) h = absurd h
+pair_bound c a b (node.Word e) h = absurd h
 pair_bound c a b (node.Source l) h = absurd h
 pair_bound c a b (node.Sink l) h = absurd h
 pair_bound c a b (Marked' m p n1) h = absurd h
 pair_bound c a b (Pair' c1 out p a1 q b1) h = rw (h.2, h.3) refl
 
 pub pair_chunks : (c : PairControl) (a b n : Node) → IsPairOf c a b n → chunks_of n ≡ chunks_of a + chunks_of b
-pair_chunks c a b (node.Elem e) h = absurd h
+pair_chunks c a b (node.Word e) h = absurd h
 pair_chunks c a b (node.Source l) h = absurd h
 pair_chunks c a b (node.Sink l) h = absurd h
 pair_chunks c a b (Marked' m p n1) h = absurd h
 pair_chunks c a b (Pair' c1 out p a1 q b1) h = rw (h.2, h.3) refl
 
 pub pair_places : (c : PairControl) (a b n : Node) → IsPairOf c a b n → (place : ℕ → Place) → StandsAt a place → StandsAt b place → StandsAt n place
-pair_places c a b (node.Elem e) h place s t = absurd h
+pair_places c a b (node.Word e) h place s t = absurd h
 pair_places c a b (node.Source l) h place s t = absurd h
 pair_places c a b (node.Sink l) h place s t = absurd h
 pair_places c a b (Marked' m p n1) h place s t = absurd h

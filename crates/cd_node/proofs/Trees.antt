@@ -4,7 +4,6 @@ use Rattle.cd_scope.specs.declared.table.Held.{Held}
 use Rattle.cd_step.specs.declared.control.Side.{Side}
 use Rattle.cd_step.specs.declared.control.Side.TheVariants.{Upper, Lower}
 use Rattle.cd_step.specs.Parts.{Part, IsHeld, IsSound}
-use Rattle.cd_elemwise.proofs.StageLaws.{stage_sound, within_held}
 use Rattle.cd_node.specs.Controls.{whole_pair, at_side, seen_pair}
 use Rattle.cd_node.specs.Nodes.{AreHeld, HasNoTicket}
 use Rattle.cd_node.specs.Ports.{ticket_of}
@@ -13,11 +12,12 @@ use Rattle.cd_step.proofs.Sides.{left_false, right_false}
 use Rattle.cd_node.specs.Trees.{seen, IsWell, bound_of, chunks_of, IsSameNode, AreHeldIn, HasNoTicketIn}
 use Rattle.cd_node.specs.declared.control.PairControl.{PairControl}
 use Rattle.cd_node.specs.declared.node.Node.{Node, Pair', Marked'}
-use Rattle.cd_node.specs.declared.node.Node.TheVariants.{Elem, Source, Sink}
+use Rattle.cd_node.specs.declared.node.Node.TheVariants.{Word, Source, Sink}
 use Rattle.cd_node.proofs.Controls.{pair_room, pair_sound, pair_has_up, pair_has_down, pair_none_up, pair_none_down}
 use Rattle.cd_node.proofs.Marking.{fits_held, mark_sound}
 use Rattle.cd_node.proofs.Sinking.{sink_sound}
 use Rattle.cd_node.proofs.Sourcing.{source_sound}
+use Rattle.cd_node.proofs.WordStages.{word_held, word_room, word_sound}
 
 side_sound : (out : Option Side) (p a b : Part) → IsSound p → IsSound (at_side out p a b)
 side_sound None p a b h = h
@@ -25,14 +25,14 @@ side_sound (Some Upper) p a b h = record { local = h.local; counts = h.counts; g
 side_sound (Some Lower) p a b h = record { local = h.local; counts = h.counts; graded = h.graded; rising = h.rising; own = h.own }
 
 pub node_sound : (n : Node) → IsWell n → IsSound (seen n)
-node_sound (Elem e) w = stage_sound e
+node_sound (Word e) w = word_sound e
 node_sound (Source l) w = source_sound l.port.medium l.stand l.port.site.0 l.port.ticket w
 node_sound (Sink l) w = sink_sound l.port.medium l.stand l.port.site.0 l.port.ticket w
 node_sound (Pair' c out p a q b) w = side_sound out (whole_pair c (seen a) (seen b)) (seen a) (seen b) (pair_sound c (seen a) (seen b) (node_sound a w.0) (node_sound b w.1))
 node_sound (Marked' m p b) w = mark_sound m (seen b) w.1.1 (node_sound b w.0)
 
 pub well_held : (n : Node) → IsWell n → IsHeld (seen n)
-well_held (Elem e) w = within_held e w.2
+well_held (Word e) w = word_held e w
 well_held (Source l) w = omega arith
 well_held (Sink l) w = omega arith
 well_held (Pair' c out p a q b) w = w.3
@@ -44,7 +44,7 @@ side_room (Some Upper) c a b = pair_room c a b
 side_room (Some Lower) c a b = pair_room c a b
 
 pub room_is : (n : Node) → (seen n).room ≡ bound_of n + chunks_of n
-room_is (Elem e) = refl
+room_is (Word e) = word_room e
 room_is (Source l) = refl
 room_is (Sink l) = refl
 room_is (Pair' c out p a q b) = let h = room_is a in let k = room_is b in let e = side_room out c (seen a) (seen b) in omega (arith, h, k, e)
@@ -71,7 +71,7 @@ side_has (Some Upper) p a b s d = refl
 side_has (Some Lower) p a b s d = refl
 
 pub held_in_words : (table : List Held) (n : Node) → AreHeld table (seen n) → AreHeldIn table n
-held_in_words table (Elem e) h = tt
+held_in_words table (Word e) h = tt
 held_in_words table (Source l) h = h
 held_in_words table (Sink l) h = h
 held_in_words table (Pair' c out p a q b) h = (
@@ -81,7 +81,7 @@ held_in_words table (Pair' c out p a q b) h = (
 held_in_words table (Marked' m p b) h = (λ s d e. h s d (own_up (ticket_of m.port.ticket s d) ((seen b).tickets s d) e), held_in_words table b (λ s d e. h s d (own_down (ticket_of m.port.ticket s d) ((seen b).tickets s d) e)))
 
 pub none_in_words : (n : Node) → HasNoTicket (seen n) → HasNoTicketIn n
-none_in_words (Elem e) h = tt
+none_in_words (Word e) h = tt
 none_in_words (Source l) h = h
 none_in_words (Sink l) h = h
 none_in_words (Pair' c out p a q b) h =

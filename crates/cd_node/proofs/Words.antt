@@ -4,14 +4,13 @@ use Rattle.cd_meaning.specs.Places.{Place, Reads, ReadsInput, Writes, WritesOutp
 use Rattle.cd_step.specs.declared.protocol.Input.{Input}
 use Rattle.cd_step.specs.declared.protocol.Move.{Move}
 use Rattle.cd_step.specs.Parts.{fed, Stepped}
-use Rattle.cd_elemwise.specs.declared.stage.ElemStage.{ElemStage}
-use Rattle.cd_elemwise.specs.Stages.{seen_stage}
 use Rattle.cd_node.specs.Nodes.{NodeStepped, fed_node}
 use Rattle.cd_node.specs.PlainWords.{node_input, node_move}
 use Rattle.cd_node.specs.Sinks.{IsSinkPlace, SinkWrites, seen_sink}
 use Rattle.cd_node.specs.Sources.{IsSourcePlace, SourceReads, seen_source}
 use Rattle.cd_node.specs.Trees.{StandsAt, seen}
 use Rattle.cd_node.specs.Turns.{StepsOn}
+use Rattle.cd_node.specs.WordStages.{seen_word}
 use Rattle.cd_node.specs.declared.node.Node.{Node}
 use Rattle.cd_node.specs.declared.node.Node.TheVariants as node
 use Rattle.cd_node.specs.declared.port.Medium.{Medium}
@@ -20,11 +19,12 @@ use Rattle.cd_node.specs.declared.protocol.NodeInput.{NodeInput}
 use Rattle.cd_node.specs.declared.protocol.NodeMove.{NodeMove}
 use Rattle.cd_node.specs.declared.sink.Sink.{Sink}
 use Rattle.cd_node.specs.declared.source.Source.{Source}
+use Rattle.cd_node.specs.declared.word.WordStage.{WordStage}
 use Rattle.cd_node.proofs.PlainWords.{fed_plain, steps_plain}
 
-pub elem_law : (n : Node) (e f : ElemStage) (j : NodeInput) (i : Input) (m : Move) (k : NodeMove) → n ≡ node.Elem e → j ≡ node_input i → k ≡ node_move m → Stepped (seen_stage e) i m (seen_stage f)
-    → StepsOn (StandsAt n) k (fed_node j (seen n)) (seen_stage f)
-elem_law n e f j i m k x y z h = rw (x, y, z, fed_plain i (seen_stage e)) (steps_plain (StandsAt (node.Elem e)) m (fed i (seen_stage e)) (seen_stage f) h.goes)
+pub word_law : (n : Node) (e f : WordStage) (j : NodeInput) (i : Input) (m : Move) (k : NodeMove) → n ≡ node.Word e → j ≡ node_input i → k ≡ node_move m → Stepped (seen_word e) i m (seen_word f)
+    → StepsOn (StandsAt n) k (fed_node j (seen n)) (seen_word f)
+word_law n e f j i m k x y z h = rw (x, y, z, fed_plain i (seen_word e)) (steps_plain (StandsAt (node.Word e)) m (fed i (seen_word e)) (seen_word f) h.goes)
 
 -- some place is one that the word reads or writes
 source_place : (m : Medium) → (x : Place) × IsSourcePlace m x

@@ -9,3 +9,4 @@ pub mod Sinks
 pub mod Sources
 pub mod Trees
 pub mod Turns
+pub mod WordStages

@@ -14,6 +14,7 @@ mod sink;
 mod source;
 mod turn;
 mod values;
+mod word;
 
 pub use control::PairControl;
 pub use laws::{ended_site, held_tickets, sound_leaves, sound_nodes};
@@ -23,3 +24,4 @@ pub use port::Medium;
 pub use protocol::{NodeInput, NodeMove};
 pub use sink::{Sink, SinkStand};
 pub use source::{Source, SourceStand};
+pub use word::WordStage;

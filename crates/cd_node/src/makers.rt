@@ -16,7 +16,9 @@ ghost use Rattle.cd_meaning.specs.Sources.{marked};
 ghost use Rattle.cd_meaning.proofs.Moves.Fused.{IsGrade};
 ghost use Rattle.cd_meaning.specs.Stream.{End, Flow, Item};
 ghost use Rattle.cd_meaning.specs.WordMeanings.{word_meaning};
-ghost use Rattle.cd_step.specs.Parts.{both_sites, chunk_at, joined, of_pieces, shared};
+ghost use Rattle.cd_pieces.specs.Carried as pieces;
+ghost use Rattle.cd_pieces.specs.Literals as literals;
+ghost use Rattle.cd_step.specs.Parts.{both_sites, chunk_at, joined, of_pieces, shared, sort_at};
 ghost use Rattle.cd_node.specs.Makes.{IsPairOf, IsUnstarted};
 ghost use Rattle.cd_node.specs.Nodes.{HasNoTicket};
 ghost use Rattle.cd_node.specs.Trees.{IsWell, StandsAt, bound_of, chunks_of, seen};
@@ -26,9 +28,11 @@ use crate::mark::Mark;
 use crate::node::Node;
 use crate::sink::Sink;
 use crate::source::Source;
-use cd_elem::{ElemWord, NoMemory, Site, Sort};
+use crate::word::WordStage;
+use cd_elem::{ElemWord, Kind, NoMemory, PieceWord, Site, Sort, SourceWord};
 use cd_elemwise::elem_stage;
 use cd_fuse::{Follow, Fuse};
+use cd_pieces::{literal_stage, piece_stage};
 use std::alloc::Global;
 
 impl Node {
@@ -49,7 +53,47 @@ impl Node {
             → (seen n).run z xs end ≡ (word_meaning (words.Elem word.now)).run (Some sort) site told xs end) }
     {
         let stage = elem_stage(alloc, word, sort)?;
-        Ok(Node::Elem(stage))
+        Ok(Node::Word(WordStage::Elem(stage)))
+    }
+
+    /// A piece word, where pieces of this kind come to it.
+    pub fn piece(alloc: Global, word: &PieceWord, kind: Kind) -> Result<Node, NoMemory>
+        requires { pieces.HasType word.now kind }
+        ensures well { IfOk result IsWell }
+        ensures unstarted { IfOk result (λ n. IsUnstarted (seen n)) }
+        ensures gives { IfOk result (λ n. (seen n).gives ≡ pieces.word_gives word.now kind) }
+        ensures takes { IfOk result (λ n. (seen n).takes ≡ Some kind) }
+        ensures pieces { IfOk result (λ n. (seen n).grade.pieces ≡ of_pieces (seen n).takes) }
+        ensures exact { IfOk result (λ n. (seen n).grade.exact ≡ true) }
+        ensures sites { IfOk result (λ n. (t : ℕ) → (seen n).sites t ≡ false) }
+        ensures places { IfOk result (λ n. (place : ℕ → Place) → StandsAt n place) }
+        ensures bound { IfOk result (λ n. bound_of n ≡ pieces.bound_of word.now kind) }
+        ensures chunks { IfOk result (λ n. chunks_of n ≡ chunk_at kind) }
+        ensures means { IfOk result (λ n. (z : Seen) (site : ℕ) (told : Seen) (xs : List Item) (end : End)
+            → (seen n).run z xs end ≡ (word_meaning (words.Piece word.now)).run (Some (sort_at kind)) site told xs end) }
+    {
+        let stage = piece_stage(alloc, word, kind)?;
+        Ok(Node::Word(WordStage::Piece(stage)))
+    }
+
+    /// A word that gives what stands in the script.
+    pub fn literal(alloc: Global, word: &SourceWord) -> Result<Node, NoMemory>
+        requires { literals.HasType word.now }
+        ensures well { IfOk result IsWell }
+        ensures unstarted { IfOk result (λ n. IsUnstarted (seen n)) }
+        ensures gives { IfOk result (λ n. (seen n).gives ≡ Some (literals.literal_kind word.now)) }
+        ensures takes { IfOk result (λ n. (seen n).takes ≡ None) }
+        ensures pieces { IfOk result (λ n. (seen n).grade.pieces ≡ of_pieces (seen n).takes) }
+        ensures exact { IfOk result (λ n. (seen n).grade.exact ≡ true) }
+        ensures sites { IfOk result (λ n. (t : ℕ) → (seen n).sites t ≡ false) }
+        ensures places { IfOk result (λ n. (place : ℕ → Place) → StandsAt n place) }
+        ensures bound { IfOk result (λ n. bound_of n ≡ 0) }
+        ensures chunks { IfOk result (λ n. chunks_of n ≡ chunk_at (literals.literal_kind word.now)) }
+        ensures means { IfOk result (λ n. (z : Seen) (flow : Flow) (site : ℕ) (told : Seen) (xs : List Item) (end : End)
+            → (seen n).run z xs end ≡ (word_meaning (words.Source word.now)).run flow site told xs end) }
+    {
+        let stage = literal_stage(alloc, word)?;
+        Ok(Node::Word(WordStage::Literal(stage)))
     }
 
     /// `sourceFile`, at this site.

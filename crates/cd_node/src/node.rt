@@ -19,8 +19,8 @@ use crate::sink::Sink;
 use crate::source::Source;
 use crate::turn::{NodeTurn, Turned, first, node_turn, pick};
 use crate::values::value_of;
+use crate::word::WordStage;
 use cd_elem::{Chunk, NoMemory};
-use cd_elemwise::ElemStage;
 use cd_scope::Scope;
 use cd_step::{Control, Flow, Found, Made, Side, Stage};
 use std::alloc::Global;
@@ -28,7 +28,7 @@ use std::alloc::Global;
 /// A part between two steps: a word, or two nodes under a controller. It holds the tickets of its open files, so it is
 /// not dropped: it is given up by `retire`, `abandon` or `give_up`.
 pub enum Node {
-    Elem(ElemStage),
+    Word(WordStage),
     Source(Source),
     Sink(Sink),
     /// Two nodes. The side is that of the one that is out: the answer of a site is waited for, and goes to it.
@@ -69,7 +69,7 @@ impl Node {
         ensures same { IsSameNode self.old self.new }
     {
         match self {
-            Node::Elem(stage) => {
+            Node::Word(stage) => {
                 let made = stage.step(alloc, plain(input))?;
                 Ok(node_move(made))
             }
@@ -107,7 +107,7 @@ impl Node {
         ensures { result ≡ (seen self.now).held }
     {
         match self {
-            Node::Elem(stage) => stage.held(),
+            Node::Word(stage) => stage.held(),
             Node::Source(source) => source.held(),
             Node::Sink(sink) => sink.held(),
             Node::Pair(control, _, a, b) => {
@@ -128,7 +128,7 @@ impl Node {
         ensures room { (seen self.now).room ≡ bound_of self.now + chunks_of self.now }
     {
         match self {
-            Node::Elem(stage) => stage.bound(),
+            Node::Word(stage) => stage.bound(),
             Node::Source(source) => source.bound(),
             Node::Sink(sink) => sink.bound(),
             Node::Pair(_, _, a, b) => a.bound() + b.bound(),
@@ -145,7 +145,7 @@ impl Node {
         ensures same { IsSameNode self.old self.new }
     {
         match self {
-            Node::Elem(stage) => stage.retire(),
+            Node::Word(stage) => stage.retire(),
             Node::Source(source) => source.give_back(),
             Node::Sink(sink) => sink.give_back(),
             Node::Pair(control, out, a, b) => give_back_both(control, out, a, b),
@@ -189,7 +189,7 @@ impl Node {
         ensures { scope.new ≡ scope.old }
     {
         match self {
-            Node::Elem(stage) => drop(stage),
+            Node::Word(stage) => drop(stage),
             Node::Source(source) => drop(source.retire(scope)),
             Node::Sink(sink) => drop(sink.retire(scope)),
             Node::Pair(control, _, a, b) => {
@@ -208,7 +208,7 @@ impl Node {
         requires { HasNoTicketIn self }
     {
         match self {
-            Node::Elem(stage) => drop(stage),
+            Node::Word(stage) => drop(stage),
             Node::Source(source) => source.give_up(),
             Node::Sink(sink) => sink.give_up(),
             Node::Pair(control, _, a, b) => {

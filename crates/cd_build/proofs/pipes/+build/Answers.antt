@@ -242,6 +242,23 @@ build_pipe-returns-in-Sequence t c =
 
 -- ---- `mark`
 
+pub build_mark-returns : goal.build_mark-returns
+build_mark-returns t c name =
+    let e = c.in_ok-node-2.ensures in
+    mark_built name (part c.args.body.now) (pipe_meaning c.args.body.now) c.args.takes c.args.site c.in_ok-node.field-0 c.in_ok-node-2.node c.in_ok-node.ensures
+    (record {
+      well = e.well;
+      unstarted = e.unstarted;
+      gives = e.gives;
+      takes = e.takes;
+      pieces = e.pieces;
+      exact = e.exact;
+      sites = e.sites;
+      places = e.places;
+      bound = e.bound;
+      means = e.means;
+    })
+
 pub build_pipe-build_mark-requires : goal.build_pipe-build_mark-requires
 build_pipe-build_mark-requires t c =
     let q = c.get.result.now in

@@ -12,12 +12,17 @@ use Rattle.cd_node.proofs.Marked.{body_steps, own_steps}
 use Rattle.cd_node.proofs.PlainWords.{steps_plain}
 use Rattle.cd_node.proofs.Trees.{node_sound, same_node, same_behind}
 use Rattle.cd_node.proofs.Turning.{up_went, down_went, up_asks, down_asks, steps_by, first_lost, went_again, went_flow, turn_asks}
-use Rattle.cd_node.proofs.Words.{elem_law, source_law, sink_law}
+use Rattle.cd_node.proofs.WordStages.{word_same}
+use Rattle.cd_node.proofs.Words.{word_law, source_law, sink_law}
 use Rattle.cd_node.proofs.node.+drive.Goals as goal
 
-pub Node::advance-returns-in_ok-made-in-Elem-clause-law : goal.Node::advance-returns-in_ok-made-in-Elem-clause-law
-Node::advance-returns-in_ok-made-in-Elem-clause-law t c =
-    elem_law c.args.self.now c.in-Elem.stage c.step.new.self c.args.input c.plain.result c.in_ok-made-in-Elem.made c.node_move.result c.in-Elem.is c.plain.ensures c.node_move.ensures c.in_ok-made-in-Elem.ensures.law
+pub Node::advance-returns-in_ok-made-in-Word-clause-law : goal.Node::advance-returns-in_ok-made-in-Word-clause-law
+Node::advance-returns-in_ok-made-in-Word-clause-law t c =
+    word_law c.args.self.now c.in-Word.stage c.step.new.self c.args.input c.plain.result c.in_ok-made-in-Word.made c.node_move.result c.in-Word.is c.plain.ensures c.node_move.ensures c.in_ok-made-in-Word.ensures.law
+
+pub Node::advance-returns-in_ok-made-in-Word-clause-same : goal.Node::advance-returns-in_ok-made-in-Word-clause-same
+Node::advance-returns-in_ok-made-in-Word-clause-same t c =
+    word_same c.args.self.now c.in-Word.stage c.step.new.self c.plain.result c.in-Word.is c.in_ok-made-in-Word.ensures.kept
 
 pub Node::advance-returns-in_ok-made-in-Source-clause-law : goal.Node::advance-returns-in_ok-made-in-Source-clause-law
 Node::advance-returns-in_ok-made-in-Source-clause-law t c =

@@ -1,0 +1,67 @@
+// The words without sites, whichever crate they are from.
+use cd_elem::{Chunk, NoMemory};
+use cd_elemwise::ElemStage;
+use cd_pieces::{LiteralStage, PieceStage};
+use cd_step::{Input, Move, Stage};
+use std::alloc::Global;
+
+/// A suspended word that has no site.
+#[derive(Drop)]
+pub enum WordStage {
+    Elem(ElemStage),
+    Piece(PieceStage),
+    Literal(LiteralStage),
+}
+
+impl Stage for WordStage {
+    ghost use Rattle.cd_node.specs.WordStages.{seen_word, word_fits, word_most, word_one};
+
+    ghost seen = { seen_word };
+
+    ghost fits = { word_fits };
+
+    ghost most = { word_most };
+
+    ghost one = { word_one };
+
+    fn step(&mut self, alloc: Global, input: Input) -> Result<Move, NoMemory> {
+        match self {
+            WordStage::Elem(stage) => {
+                let made = stage.step(alloc, input)?;
+                Ok(made)
+            }
+            WordStage::Piece(stage) => {
+                let made = stage.step(alloc, input)?;
+                Ok(made)
+            }
+            WordStage::Literal(stage) => {
+                let made = stage.step(alloc, input)?;
+                Ok(made)
+            }
+        }
+    }
+
+    fn held(&self) -> u64 {
+        match self {
+            WordStage::Elem(stage) => stage.held(),
+            WordStage::Piece(stage) => stage.held(),
+            WordStage::Literal(stage) => stage.held(),
+        }
+    }
+
+    fn bound(&self) -> u64 {
+        match self {
+            WordStage::Elem(stage) => stage.bound(),
+            WordStage::Piece(stage) => stage.bound(),
+            WordStage::Literal(stage) => stage.bound(),
+        }
+    }
+
+    fn retire(&mut self) -> Option<Chunk> {
+        match self {
+            WordStage::Elem(stage) => stage.retire(),
+            WordStage::Piece(stage) => stage.retire(),
+            WordStage::Literal(stage) => stage.retire(),
+        }
+    }
+}
