@@ -87,7 +87,11 @@ def value(tree):
     """The value of a word as the program prints it."""
     if tree == "Unit":
         return "unit"
-    kind, inner = tree
+    kind, inner = tree[0], tree[1]
+    if kind == "Pair":
+        return f"pair {value(inner)}, {value(tree[2])}"
+    if kind == "ListV":
+        return f"list [{', '.join(map(value, inner))}]"
     if kind == "Maybe":
         return "none" if inner is None else "some " + value(inner)
     if kind in ("BytesV", "TextV"):
@@ -95,8 +99,9 @@ def value(tree):
     return str(inner).lower() if kind == "Bool" else f"{kind.lower()} {inner}"
 
 
-def flat(outputs):
-    return [number for one in outputs for number in (one if isinstance(one, list) else [one])]
+def given(outputs):
+    """Elements, or pieces each behind a slash."""
+    return "".join(slashed([one]) if isinstance(one, list) else f" {one}" for one in outputs)
 
 
 def word_case(kind, case, input_text, answers):
@@ -105,7 +110,7 @@ def word_case(kind, case, input_text, answers):
 
 
 def gives(case):
-    return "gives" + spaced(flat([act["act"][1] for act in case["acts"] if act["act"][0] == "out"]))
+    return "gives" + given(act["act"][1] for act in case["acts"] if act["act"][0] == "out")
 
 
 def outcome(case, need=False):
@@ -119,7 +124,7 @@ def outside_word(case):
     if case["sort"] in ("Block", "Text"):
         pieces = slashed(case["input"])
         return word_case("pieces", case, pieces, ["= pieces: " + outcome(case, need=True)])
-    answers = ["= by 1: " + outcome(case, need=True), "= by 2: " + outcome(case), "= whole: " + outcome(case)]
+    answers = ["= by 1: " + outcome(case, need=True), *(f"= {cut}: " + outcome(case) for cut in ("by 2", "by 3", "whole"))]
     return word_case("sizes", case, spaced(case["input"]).strip(), answers)
 
 
@@ -133,7 +138,7 @@ def all_moves(case):
 
 def word_cases():
     for case in rows("words.jsonl"):
-        if case["word"][0] == "Elem":
+        if case["word"][0] in ("Elem", "Piece", "Split"):
             yield outside_word(case)
     for case in rows("word_runs.jsonl"):
         yield {"sizes": outside_word, "cuts": all_cuts, "moves": all_moves}[case["by"]](case)
@@ -236,8 +241,10 @@ def command_cases():
 # What is built of the words, operators and statements.
 BUILT = {
     "passE", "takeE", "takeWhileE", "filterE", "mapE", "repeatE", "dropE", "dropWhileE", "headE", "peekE", "lastE",
-    "lengthE", "sumE", "allE", "anyE", "nullE", "collectE", "sinkNull", "sourceFile", "stdin", "sinkFile", "stdout",
-    "mark", "chain |", "sequence", "run", "hold", "release",
+    "lengthE", "sumE", "allE", "anyE", "nullE", "collectE", "sinkNull", "pass", "take", "takeWhile", "filter", "map",
+    "repeat", "intersperse", "drop", "dropWhile", "head", "peek", "last", "length", "null", "collect", "lines", "split",
+    "exact", "chunksOf", "flat", "unlines", "bytes", "text", "blocks", "texts", "replicate", "range", "sourceFile",
+    "stdin", "sinkFile", "stdout", "mark", "chain |", "sequence", "run", "hold", "release",
 }
 
 
@@ -281,8 +288,7 @@ def is_built(tree):
     """Whether a pipe is built."""
     kind, *inner = tree
     if kind == "Word":
-        word = inner[0]
-        return word[0] in ("Elem", "Sink") or word[0] == "Source" and (word[1] == "Stdin" or word[1][0] == "SourceFile")
+        return inner[0][0] in ("Elem", "Piece", "Split", "Source", "Sink")
     if kind == "Chain":
         return inner[0] == "Plain" and all(map(is_built, inner[1]))
     if kind == "Sequence":
@@ -295,8 +301,10 @@ def sites_of(tree):
     kind, *inner = tree
     if kind == "Word":
         word = inner[0]
+        if word[0] == "Source" and word[1] == "Stdin":
+            return [("reads", "<stdin>")]
         if word[0] == "Source":
-            return [("reads", "<stdin>" if word[1] == "Stdin" else word[1][1])]
+            return [("reads", word[1][1])] if word[1][0] == "SourceFile" else []
         if word[0] == "Sink":
             return [("writes", "<stdout>" if word[1] == "Stdout" else word[1][1])]
         return []

@@ -7,9 +7,9 @@ PROGRAM is crates/conduit/out/conduit if none is given. Each case is a file case
 
 words     the words of the command; a list of numbers in place of a word is its bytes
 files     what stands in the folder before the run, by name: a text; a list of texts and of [count, text], which stands
-          so many times; or an object with "bytes" (numbers), "directory", "mode" (octal, beside "text"), or "fifo": a
-          text that is written in pieces of "pieces" bytes, each when the one before was read, and has come out where it is
-          a "source"
+          so many times; or an object with "bytes" (numbers), "example" (the script of examples/ with this name),
+          "directory", "mode" (octal, beside "text"), or "fifo": a text that is written in pieces of "pieces" bytes, each
+          when the one before was read, and has come out where it is a "source"
 stdin     a text, "closed", or the fifo's object; nothing if it is not given
 stdout    what standard output gets, as a file's text; or an object: "closed", "full" (the full device), or "reader"
           with the number of bytes after which the reader closes its end
@@ -35,7 +35,8 @@ import time
 from pathlib import Path
 
 HERE = Path(__file__).resolve().parent
-PROGRAM = HERE.parent.parent / "crates" / "conduit" / "out" / "conduit"
+ROOT = HERE.parent.parent
+PROGRAM = ROOT / "crates" / "conduit" / "out" / "conduit"
 SECONDS = 60
 
 
@@ -46,6 +47,8 @@ class Skipped(Exception):
 def content(told):
     """The bytes of a text as a case writes it."""
     if isinstance(told, dict):
+        if "example" in told:
+            return (ROOT / "examples" / told["example"]).read_bytes()
         return bytes(told["bytes"]) if "bytes" in told else content(told["text"])
     parts = told if isinstance(told, list) else [told]
     return b"".join(part.encode() if isinstance(part, str) else part[1].encode() * part[0] for part in parts)

@@ -1,10 +1,12 @@
-// Runs of element words over whole lists, and how much of the input each asked for and took.
+// Runs of words over whole lists, and how much of the input each asked for and took.
 //
 // A case has a word, an input with the numbers of its elements, and whether the input ends there. Chunks and pieces
-// that are given stand each behind a slash.
-use crate::driver::{Run, run_word};
-use case_notation::{CaseError, field, numbers, push_number, text_within, write_numbers};
-use cd_elem::{CHUNK_LIMIT, ElemWord, Items, NumberList, Pipe, Script, Sort, Stmt, Word};
+// stand each behind a slash, where they are given and where pieces come out.
+use crate::input::Given;
+use crate::run::Run;
+use crate::words::run_word;
+use case_notation::{CaseError, field, numbers, text_within};
+use cd_elem::{CHUNK_LIMIT, Items, NumberList, Pipe, Script, Sort, Stmt, Word};
 use cd_script::{TEXT_LIMIT, parse};
 use std::alloc::Global;
 
@@ -14,7 +16,7 @@ type Chunks = Items<NumberList>;
 /// What a case asks for.
 #[derive(Clone, Copy)]
 struct Question<'a> {
-    word: ElemWord,
+    word: &'a Word,
     sort: Sort,
     input: &'a str,
     /// Whether the input ends behind what is given.
@@ -30,21 +32,19 @@ enum Cut {
     At(u32),
 }
 
-fn word_in(script: &Script) -> Result<ElemWord, CaseError> {
+fn word_in(script: &Script) -> Result<&Word, CaseError> {
     match script.statements().get(0) {
-        Some(Stmt::Run(Pipe::Word(Word::Elem(word)))) => Ok(*word),
-        _ => Err(CaseError::Malformed("an element word")),
+        Some(Stmt::Run(Pipe::Word(word))) => Ok(word),
+        _ => Err(CaseError::Malformed("a word")),
     }
 }
 
-/// The word of a script of one word.
-fn word_of(alloc: Global, script: &[u8]) -> Result<ElemWord, CaseError> {
-    let Ok(script) = parse(alloc, text_within(script, TEXT_LIMIT)?) else {
-        return Err(CaseError::Malformed("a word"));
-    };
-    let word = word_in(&script);
-    drop(script);
-    word
+/// The script of one word.
+fn script_of(alloc: Global, word: &str) -> Result<Script, CaseError> {
+    let text = format!(in alloc; "run {word};")?;
+    let script = parse(alloc, text_within(text.as_bytes(), TEXT_LIMIT)?);
+    drop(text);
+    script.map_err(|_| CaseError::Malformed("a word"))
 }
 
 fn sort_of(name: &str) -> Result<Sort, CaseError> {
@@ -106,19 +106,16 @@ fn cut_by(alloc: Global, list: &[u32], cut: Cut) -> Result<Chunks, CaseError> {
 
 /// Adds how many elements or pieces the run took, or what it gave back, where these are not the last that it was given.
 fn write_net(text: &mut String, run: &Run) -> Result<(), CaseError> {
-    let back = run.back.as_slice();
-    if run.fed.as_slice().ends_with(back) {
-        write!(text, "; net {}", run.count.saturating_sub(back.len()))?;
-        return Ok(());
+    match run.net {
+        Some(net) => write!(text, "; net {net}")?,
+        None => write!(text, "; gave back{}", run.back)?,
     }
-    text.push_str("; gave back")?;
-    write_numbers(text, back)
+    Ok(())
 }
 
 /// Adds what the run gave, its value and its net.
 fn write_outcome(text: &mut String, run: &Run) -> Result<(), CaseError> {
-    text.push_str("gives")?;
-    write_numbers(text, run.given.as_slice())?;
+    write!(text, "gives{}", run.given)?;
     if run.value.is_empty() {
         text.push_str("; waits")?;
         return Ok(());
@@ -136,7 +133,11 @@ fn write_run(
     chunks: &[NumberList],
     with_need: bool,
 ) -> Result<(), CaseError> {
-    let run = run_word(alloc, asked.word, asked.sort, chunks, asked.ends)?;
+    let given = Given {
+        chunks,
+        ends: asked.ends,
+    };
+    let run = run_word(alloc, asked.word, asked.sort, given)?;
     let mut written = write_outcome(text, &run);
     if with_need {
         written = written.and(write_need(text, run.asked));
@@ -164,14 +165,19 @@ fn write_cut_run(
     written
 }
 
-/// Adds a line for single elements, with the need, one for pairs, and one for the whole.
+/// Adds a line for single elements, with the need, one for pairs, one for triples, and one for the whole.
 fn write_sizes(
     alloc: Global,
     lines: &mut String,
     asked: Question<'_>,
     list: &[u32],
 ) -> Result<(), CaseError> {
-    for (name, size) in [("by 1", 1), ("by 2", 2), ("whole", CHUNK_LIMIT)] {
+    for (name, size) in [
+        ("by 1", 1),
+        ("by 2", 2),
+        ("by 3", 3),
+        ("whole", CHUNK_LIMIT),
+    ] {
         write!(lines, "= {name}: ")?;
         write_cut_run(alloc, lines, asked, list, Cut::Every(size), size == 1)?;
         lines.push_str("\n")?;
@@ -203,7 +209,11 @@ fn write_cuts(
 /// Adds a line for each move of a run on the chunks as they are given.
 fn write_moves(alloc: Global, lines: &mut String, asked: Question<'_>) -> Result<(), CaseError> {
     let chunks = given(alloc, asked.input)?;
-    let run = run_word(alloc, asked.word, asked.sort, chunks.as_slice(), asked.ends);
+    let given = Given {
+        chunks: chunks.as_slice(),
+        ends: asked.ends,
+    };
+    let run = run_word(alloc, asked.word, asked.sort, given);
     drop(chunks);
     let run = run?;
     let written = lines.push_str(run.moves.as_str());
@@ -239,31 +249,25 @@ fn write_list(
 }
 
 fn read_question<'a>(
-    alloc: Global,
-    word: &str,
+    script: &'a Script,
     input: &'a str,
     end: &str,
 ) -> Result<Question<'a>, CaseError> {
-    let script = format!(in alloc; "run {word};")?;
     let (sort, input) = field(input);
     Ok(Question {
-        word: word_of(alloc, script.as_bytes())?,
+        word: word_in(script)?,
         sort: sort_of(sort)?,
         input,
         ends: end == "end",
     })
 }
 
-/// `sizes WORD` asks for runs by one element, by two and on the whole, `cuts WORD` for all cuts of six elements, `moves
-/// WORD` for each move, and `pieces WORD` for the run on pieces. The next line has the sort and the input, and the last
-/// one is `end` or `more`.
-pub fn answer(alloc: Global, case: &str, lines: &mut String) -> Result<(), CaseError> {
-    let mut parts = case.lines();
-    let (Some(head), Some(input), Some(end)) = (parts.next(), parts.next(), parts.next()) else {
-        return Err(CaseError::Malformed("three lines"));
-    };
-    let (kind, word) = field(head);
-    let asked = read_question(alloc, word, input, end)?;
+fn write_answer(
+    alloc: Global,
+    lines: &mut String,
+    kind: &str,
+    asked: Question<'_>,
+) -> Result<(), CaseError> {
     if kind == "moves" {
         write_moves(alloc, lines, asked)
     } else if kind == "pieces" {
@@ -271,4 +275,22 @@ pub fn answer(alloc: Global, case: &str, lines: &mut String) -> Result<(), CaseE
     } else {
         write_list(alloc, lines, asked, kind == "cuts")
     }
+}
+
+/// `sizes WORD` asks for runs by one element, by two, by three and on the whole, `cuts WORD` for all cuts of six elements,
+/// `moves WORD` for each move, and `pieces WORD` for the run on pieces. The next line has the sort and the input, and the
+/// last one is `end` or `more`.
+pub fn answer(alloc: Global, case: &str, lines: &mut String) -> Result<(), CaseError> {
+    let mut parts = case.lines();
+    let (Some(head), Some(input), Some(end)) = (parts.next(), parts.next(), parts.next()) else {
+        return Err(CaseError::Malformed("three lines"));
+    };
+    let (kind, word) = field(head);
+    let script = script_of(alloc, word)?;
+    let answered = match read_question(&script, input, end) {
+        Ok(asked) => write_answer(alloc, lines, kind, asked),
+        Err(error) => Err(error),
+    };
+    drop(script);
+    answered
 }

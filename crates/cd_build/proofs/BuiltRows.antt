@@ -11,10 +11,10 @@ use Rattle.cd_meaning.specs.Pipes.{pipe_meaning}
 use Rattle.cd_node.specs.Makes.{IsUnstarted}
 use Rattle.cd_node.specs.Trees.{IsWell, StandsAt, bound_of, seen}
 use Rattle.cd_node.specs.declared.node.Node.{Node}
-use Rattle.cd_step.specs.Parts.{Part, of_pieces}
+use Rattle.cd_step.specs.Parts.{Part}
 use Rattle.cd_types.specs.Chains.{chain_part}
 use Rattle.cd_types.specs.Fitting.{FitInChain, FitInSequence, AllExactOnCuts}
-use Rattle.cd_types.specs.Flows.{Flow, Sort, is_pieces, join, sort_in}
+use Rattle.cd_types.specs.Flows.{Flow, Sort, join}
 use Rattle.cd_types.specs.Flows as flows
 use Rattle.cd_types.specs.Parts.{Part as TypedPart}
 use Rattle.cd_types.specs.Sequences.{joined_outputs, sequence_part}
@@ -24,9 +24,9 @@ use Rattle.cd_types.proofs.Sums.{bounds_append}
 use Rattle.cd_build.specs.Builds.{AreBuilt, IsBuiltAs, chain_meaning, chain_of, sequence_meaning, sequence_of}
 use Rattle.cd_build.specs.BuiltNodes.{IsBuiltPart}
 use Rattle.cd_build.specs.declared.pipes.Built.{Built}
-use Rattle.cd_build.proofs.Chains.{IsFusedOf, chain_output, idle_so, beside, fused_is_built}
+use Rattle.cd_build.proofs.Chains.{IsFusedOf, chain_output, beside, fused_is_built}
 use Rattle.cd_build.proofs.Chains as chains
-use Rattle.cd_build.proofs.Outputs.{join_no_pieces}
+use Rattle.cd_build.proofs.Outputs.{compared}
 use Rattle.cd_build.proofs.Rows.{stand_halves, chain_places, sequence_places, chain_flow, chain_same, sequence_same}
 use Rattle.cd_build.proofs.Sequences.{IsFollowedOf, in_turn, followed_is_built, outputs_behind}
 use Rattle.cd_build.proofs.Sequences as sequences
@@ -36,13 +36,13 @@ use Rattle.cd_build.proofs.Sequences as sequences
 one_bound : (a : TypedPart) (f : Flow) → 0 + flows.bound_of (a.types f ++ []) ≡ flows.bound_of (a.types f)
 one_bound a f = let e = bounds_append (a.types f) [] in omega arith
 
-chain_of_one : (a : TypedPart) (m : Meaning) (f : Flow) (site : ℕ) (p : Part) → is_pieces f ≡ false → IsBuiltAs a m f site p → IsBuiltAs (chain_part Join.Plain (a ∷ [])) m f site p
-chain_of_one a m f site p cut u = record {
+chain_of_one : (a : TypedPart) (m : Meaning) (f : Flow) (site : ℕ) (p : Part) → IsBuiltAs a m f site p → IsBuiltAs (chain_part Join.Plain (a ∷ [])) m f site p
+chain_of_one a m f site p u = record {
   means = u.means;
   gives = u.gives;
   takes = u.takes;
   idle = u.idle;
-  exact = λ e. u.graded (u.pieces ∙ ap of_pieces (u.idle (idle_so f (a.type f).idle cut e)));
+  exact = λ e. u.graded (u.pieces ∙ compared f p.takes (a.type f).idle u.takes u.idle e);
   pieces = u.pieces;
   graded = u.graded;
   sites = u.sites;
@@ -64,17 +64,16 @@ sequence_of_one a m f site p u = record {
   sites = u.sites;
 }
 
-pub one_chained : (p : Pipe) (f : Flow) (site : ℕ) (b : Built) → is_pieces f ≡ false → IsBuiltPart (part p) (pipe_meaning p) f site b → IsBuiltPart (chain_of (p ∷ [])) (chain_meaning (p ∷ [])) f site b
-one_chained p f site b cut h = record {
+pub one_chained : (p : Pipe) (f : Flow) (site : ℕ) (b : Built) → IsBuiltPart (part p) (pipe_meaning p) f site b → IsBuiltPart (chain_of (p ∷ [])) (chain_meaning (p ∷ [])) f site b
+one_chained p f site b h = record {
   node = record {
     well = h.node.well;
     unstarted = h.node.unstarted;
-    is_as = chain_of_one (part p) (pipe_meaning p) f site (seen b.node) cut h.node.is_as;
+    is_as = chain_of_one (part p) (pipe_meaning p) f site (seen b.node) h.node.is_as;
     bound = h.node.bound ∙ sym (one_bound (part p) f);
     places = h.node.places;
   };
   gives = h.gives;
-  no_pieces = h.no_pieces;
   next = h.next;
 }
 
@@ -88,7 +87,6 @@ one_in_sequence p f site b h = record {
     places = h.node.places;
   };
   gives = h.gives;
-  no_pieces = h.no_pieces;
   next = h.next;
 }
 
@@ -110,7 +108,7 @@ stands_so place site middle xs ys zs a b n made e k u l h =
     let both = stand_halves place site xs ys (subst (StandFrom place site) k h) in
     made.places place (u place both.0) (l place (subst (λ (m : ℕ). StandFrom place m ys) (sym e) both.1))
 
-module _ (f : Flow) (site : ℕ) (p : Pipe) (ps : List Pipe) (q : Pipe) (qs : List Pipe) (a b : Built) (cut : is_pieces f ≡ false) where
+module _ (f : Flow) (site : ℕ) (p : Pipe) (ps : List Pipe) (q : Pipe) (qs : List Pipe) (a b : Built) where
   module _ (u : IsBuiltPart (chain_of (p ∷ ps)) (chain_meaning (p ∷ ps)) f site a)
       (l : IsBuiltPart (chain_of (q ∷ qs)) (chain_meaning (q ∷ qs)) a.gives a.next b)
     where
@@ -118,7 +116,7 @@ module _ (f : Flow) (site : ℕ) (p : Pipe) (ps : List Pipe) (q : Pipe) (qs : Li
       lower = moved (chain_of (q ∷ qs)) (chain_meaning (q ∷ qs)) a.gives (chain_output f (map part (p ∷ ps))) a.next (site + length (chain_meaning (p ∷ ps)).places) (seen b.node) u.gives u.next l.node.is_as
 
       pub chain_beside : AreBeside (seen a.node) (seen b.node)
-      chain_beside = beside f (part p) (map part ps) (map part (q ∷ qs)) (chain_meaning (p ∷ ps)) (chain_meaning (q ∷ qs)) (chain_meaning (p ∷ ps ++ q ∷ qs)) site (seen a.node) (seen b.node) cut u.node.is_as lower
+      chain_beside = beside f (part p) (map part ps) (map part (q ∷ qs)) (chain_meaning (p ∷ ps)) (chain_meaning (q ∷ qs)) (chain_meaning (p ∷ ps ++ q ∷ qs)) site (seen a.node) (seen b.node) u.node.is_as lower
 
       pub chain_joined : (n : Node) → AreBuilt (p ∷ ps) → AreBuilt (q ∷ qs) → FitInChain f (map part (p ∷ ps)) → IsMadeOf a.node b.node n → IsFusedOf (seen a.node) (seen b.node) (seen n)
           → IsBuiltPart (chain_of (p ∷ ps ++ q ∷ qs)) (chain_meaning (p ∷ ps ++ q ∷ qs)) f site (record { node = n; gives = b.gives; next = b.next })
@@ -132,7 +130,7 @@ module _ (f : Flow) (site : ℕ) (p : Pipe) (ps : List Pipe) (q : Pipe) (qs : Li
               well = made.well;
               unstarted = made.unstarted;
               is_as = subst (λ l. IsBuiltAs (chain_part Join.Plain (part p ∷ l)) (chain_meaning (p ∷ ps ++ q ∷ qs)) f site (seen n)) same_parts
-                  (fused_is_built f (part p) (map part ps) (map part (q ∷ qs)) (chain_meaning (p ∷ ps)) (chain_meaning (q ∷ qs)) (chain_meaning (p ∷ ps ++ q ∷ qs)) site (seen a.node) (seen b.node) cut u.node.is_as lower
+                  (fused_is_built f (part p) (map part ps) (map part (q ∷ qs)) (chain_meaning (p ∷ ps)) (chain_meaning (q ∷ qs)) (chain_meaning (p ∷ ps ++ q ∷ qs)) site (seen a.node) (seen b.node) u.node.is_as lower
                   (seen n) fused (chain_flow f p ps fits) (chain_same f site p ps q qs first second) counted);
               bound = made.bound ∙ sums (bound_of a.node) (bound_of b.node) _ _ u.node.bound (l.node.bound ∙ ap (λ g. flows.bound_of ((chain_of (q ∷ qs)).types g)) u.gives)
                   ∙ sym (chains.bounds_of_halves f (map part (p ∷ ps)) (map part (q ∷ qs)))
@@ -141,13 +139,12 @@ module _ (f : Flow) (site : ℕ) (p : Pipe) (ps : List Pipe) (q : Pipe) (qs : Li
             };
             gives = l.gives ∙ ap (λ g. chain_output g (map part (q ∷ qs))) u.gives ∙ sym (chains.output_behind f (map part (p ∷ ps)) (map part (q ∷ qs)))
                 ∙ ap (λ l. chain_output f (part p ∷ l)) same_parts;
-            no_pieces = l.no_pieces;
             next = let e = u.next in let k = l.next in omega arith;
           } where
             sums : (x y v w : ℕ) → x ≡ v → y ≡ w → x + y ≡ v + w
             sums x y v w e k = omega arith
 
-module _ (k : Sort) (f : Flow) (site : ℕ) (p : Pipe) (ps : List Pipe) (q : Pipe) (qs : List Pipe) (a b : Built) (cut : is_pieces f ≡ false)
+module _ (k : Sort) (f : Flow) (site : ℕ) (p : Pipe) (ps : List Pipe) (q : Pipe) (qs : List Pipe) (a b : Built)
     (first : FitInSequence k f (map part (p ∷ ps))) (exact : AllExactOnCuts f (map part (p ∷ ps))) (second : FitInSequence k f (map part (q ∷ qs)))
     (u : IsBuiltPart (sequence_of (p ∷ ps)) (sequence_meaning (p ∷ ps)) f site a)
     (l : IsBuiltPart (sequence_of (q ∷ qs)) (sequence_meaning (q ∷ qs)) f a.next b)
@@ -157,7 +154,7 @@ module _ (k : Sort) (f : Flow) (site : ℕ) (p : Pipe) (ps : List Pipe) (q : Pip
 
     pub sequence_in_turn : AreInTurn (seen a.node) (seen b.node)
     sequence_in_turn = in_turn k f (part p) (map part ps) (part q) (map part qs) (sequence_meaning (p ∷ ps)) (sequence_meaning (q ∷ qs)) (sequence_meaning (p ∷ ps ++ q ∷ qs)) site (seen a.node) (seen b.node)
-        cut first exact second u.node.is_as later
+        first exact second u.node.is_as later
 
     pub sequence_joined : (n : Node) → IsMadeOf a.node b.node n → IsFollowedOf (seen a.node) (seen b.node) (seen n)
         → IsBuiltPart (sequence_of (p ∷ ps ++ q ∷ qs)) (sequence_meaning (p ∷ ps ++ q ∷ qs)) f site (record { node = n; gives = join a.gives b.gives; next = b.next })
@@ -166,23 +163,21 @@ module _ (k : Sort) (f : Flow) (site : ℕ) (p : Pipe) (ps : List Pipe) (q : Pip
         let later_places = (sequence_meaning (q ∷ qs)).places in
         let counted : length (sequence_meaning (p ∷ ps ++ q ∷ qs)).places ≡ length earlier_places + length later_places = ap length (sequence_places p ps q qs) ∙ length-append earlier_places later_places in
         let same_parts = sym (map-append part ps (q ∷ qs)) in
-        let none = subst (λ g. is_pieces g ≡ false) u.gives u.no_pieces in
         record {
           node = record {
             well = made.well;
             unstarted = made.unstarted;
             is_as = subst (λ l. IsBuiltAs (sequence_part (part p ∷ l)) (sequence_meaning (p ∷ ps ++ q ∷ qs)) f site (seen n)) same_parts
                 (followed_is_built k f (part p) (map part ps) (part q) (map part qs) (sequence_meaning (p ∷ ps)) (sequence_meaning (q ∷ qs)) (sequence_meaning (p ∷ ps ++ q ∷ qs)) site (seen a.node) (seen b.node)
-                cut first exact second u.node.is_as later (seen n) followed none (sequence_same f site p ps q qs) counted);
+                first exact second u.node.is_as later (seen n) followed (sequence_same f site p ps q qs) counted);
             bound = made.bound ∙ sums (bound_of a.node) (bound_of b.node) _ _ u.node.bound l.node.bound
                 ∙ sym (sequences.bounds_of_halves f (map part (p ∷ ps)) (map part (q ∷ qs)))
                 ∙ ap (λ l. flows.bound_of ((sequence_part (part p ∷ l)).types f)) same_parts;
             places = λ place h. stands_so place site a.next earlier_places later_places (sequence_meaning (p ∷ ps ++ q ∷ qs)).places a.node b.node n made u.next (sequence_places p ps q qs) u.node.places l.node.places h;
           };
           gives = ap (λ g. join g b.gives) u.gives ∙ ap (join (joined_outputs f (map part (p ∷ ps)))) l.gives
-              ∙ sym (outputs_behind f (part p) (map part ps) (part q) (map part qs) none)
+              ∙ sym (outputs_behind k f (part p) (map part ps) (part q) (map part qs) second)
               ∙ ap (λ l. joined_outputs f (part p ∷ l)) same_parts;
-          no_pieces = join_no_pieces a.gives b.gives u.no_pieces l.no_pieces;
           next = let e = u.next in let k = l.next in omega arith;
         } where
           sums : (x y v w : ℕ) → x ≡ v → y ≡ w → x + y ≡ v + w

@@ -1,5 +1,5 @@
 -- Chains that are cut in two: what the typing says of both halves, and the node that fuses the nodes of the two.
-use Rattle.std.proofs.Common.{◌≡◌, ℕ, ◌+◌, ◌≤◌, ◌<◌, ◌⊎◌, inl, inr, Bool, true, false, ◌||◌, List, [], ◌∷◌, ◌++◌, length, None, refl, ap, sym, ◌∙◌, subst, append_assoc, arith}
+use Rattle.std.proofs.Common.{◌≡◌, ℕ, ◌+◌, ◌≤◌, ◌<◌, ◌⊎◌, inl, inr, true, List, [], ◌∷◌, ◌++◌, length, None, refl, ap, sym, ◌∙◌, subst, append_assoc, arith}
 use Rattle.cd_elem.specs.declared.script.Join.{Join}
 use Rattle.cd_fuse.specs.Fuses.{AreBeside}
 use Rattle.cd_meaning.specs.Fusion.{fuse}
@@ -10,11 +10,11 @@ use Rattle.cd_meaning.proofs.Halves.{IsSame, same_fused}
 use Rattle.cd_step.specs.Parts.{Part, of_pieces, both_sites, Meets}
 use Rattle.cd_types.specs.Chains.{member_types, chain_part, chain_types, last_output}
 use Rattle.cd_types.specs.Fitting.{FitInChain}
-use Rattle.cd_types.specs.Flows.{Flow, bound_of, is_pieces, sort_in}
+use Rattle.cd_types.specs.Flows.{Flow, bound_of, sort_in}
 use Rattle.cd_types.specs.Parts.{Part as TypedPart}
 use Rattle.cd_types.proofs.Sums.{bounds_append}
 use Rattle.cd_build.specs.Builds.{IsBuiltAs}
-use Rattle.cd_build.proofs.Outputs.{meets, is_grade, or_so, apart}
+use Rattle.cd_build.proofs.Outputs.{compared, meets, is_grade, or_so, apart}
 
 -- what a chain of these gives
 abbrev pub chain_output : Flow → List TypedPart → Flow
@@ -52,13 +52,8 @@ pub record IsFusedOf (a b n : Part) : Type 0 where
   pub sites : (t : ℕ) → n.sites t ≡ both_sites a.sites b.sites t
   pub means : (z : Seen) (xs : List Item) (e : End) → n.run z xs e ≡ fuse (a.run z) (b.run z) xs e
 
-pub idle_so : (f : Flow) (i : Bool) → is_pieces f ≡ false → (i || is_pieces f || false) ≡ true → i ≡ true
-idle_so f true c e = refl
-idle_so f false c e = let no : ⊥ = cc in absurd no
-
 -- Two nodes that are built, of members one behind the other.
 module _ (f : Flow) (x : TypedPart) (xs ys : List TypedPart) (ma mb mw : Meaning) (site : ℕ) (a b : Part)
-    (cut : is_pieces f ≡ false)
     (u : IsBuiltAs (chain_part Join.Plain (x ∷ xs)) ma f site a)
     (l : IsBuiltAs (chain_part Join.Plain ys) mb (chain_output f (x ∷ xs)) (site + length ma.places) b)
   where
@@ -93,7 +88,7 @@ module _ (f : Flow) (x : TypedPart) (xs ys : List TypedPart) (ma mb mw : Meaning
           gives = h.gives ∙ l.gives ∙ sym (output_behind f (x ∷ xs) ys);
           takes = subst (λ k. (k ≡ None) ⊎ (k ≡ f)) (sym h.takes) u.takes;
           idle = λ e. h.takes ∙ u.idle e;
-          exact = λ e. pieces_so (u.pieces ∙ ap of_pieces (u.idle (idle_so f (x.type f).idle cut e)));
+          exact = λ e. pieces_so (u.pieces ∙ compared f a.takes (x.type f).idle u.takes u.idle e);
           pieces = h.pieces;
           graded = λ e. pieces_so (u.pieces ∙ ap of_pieces (sym h.takes) ∙ sym h.pieces ∙ e);
           sites = λ t e. site_so t (or_so (a.sites t) (b.sites t) (sym (h.sites t) ∙ e));

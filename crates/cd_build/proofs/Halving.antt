@@ -1,5 +1,5 @@
 -- What the builders of rows ask and answer, of a row that is cut in two.
-use Rattle.std.proofs.Common.{◌≡◌, ◌<◌, ℕ, ◌+◌, ◌*◌, false, List, [], ◌∷◌, ◌++◌, length, map, take, drop, ap, sym, ◌∙◌, subst, arith}
+use Rattle.std.proofs.Common.{◌≡◌, ◌<◌, ℕ, ◌+◌, ◌*◌, List, [], ◌∷◌, ◌++◌, length, map, take, drop, ap, sym, ◌∙◌, subst, arith}
 use Rattle.std.proofs.lemmas.List.{length-append, take-append-drop}
 use Rattle.cd_elem.specs.declared.script.Pipe.{Pipe}
 use Rattle.cd_fuse.specs.Follows.{AreInTurn}
@@ -7,7 +7,7 @@ use Rattle.cd_fuse.specs.Fuses.{AreBeside}
 use Rattle.cd_node.specs.Trees.{seen}
 use Rattle.cd_node.specs.declared.node.Node.{Node}
 use Rattle.cd_types.specs.Fitting.{FitInChain, FitInSequence, AllExactOnCuts}
-use Rattle.cd_types.specs.Flows.{Flow, Sort, is_pieces, join}
+use Rattle.cd_types.specs.Flows.{Flow, Sort, join}
 use Rattle.cd_types.specs.Parts.{sizes}
 use Rattle.cd_types.specs.Trees.{part}
 use Rattle.cd_build.specs.Builds.{AreBuilt, chain_meaning, chain_of, sequence_meaning, sequence_of}
@@ -64,7 +64,7 @@ sequence_room [] ys h k = absurd (omega arith)
 sequence_room (x ∷ xs) [] h k = absurd (omega arith)
 sequence_room (x ∷ xs) (y ∷ ys) h k = ap length (sequence_places x xs y ys) ∙ length-append (sequence_meaning (x ∷ xs)).places (sequence_meaning (y ∷ ys)).places
 
-module _ (f : Flow) (site most : ℕ) (ps xs ys : List Pipe) (c : IsCutIn ps xs ys) (built : AreBuilt ps) (cut : is_pieces f ≡ false) where
+module _ (f : Flow) (site most : ℕ) (ps xs ys : List Pipe) (c : IsCutIn ps xs ys) (built : AreBuilt ps) where
   module _ (fits : FitInChain f (map part ps)) (room : site + length (chain_meaning ps).places < most) where
     both_fit : FitInChain f (map part xs) × FitInChain (chain_output f (map part xs)) (map part ys)
     both_fit = chain_halves_fit f xs ys (subst (λ l. FitInChain f (map part l)) (sym c.whole) fits)
@@ -96,7 +96,7 @@ module _ (f : Flow) (site most : ℕ) (ps xs ys : List Pipe) (c : IsCutIn ps xs 
               → AreBeside (seen a.node) (seen b.node)
           of_rows [] ys h k u l = absurd (omega arith)
           of_rows (x ∷ xs) [] h k u l = absurd (omega arith)
-          of_rows (x ∷ xs) (y ∷ ys) h k u l = chain_beside f site x xs y ys a b cut u l
+          of_rows (x ∷ xs) (y ∷ ys) h k u l = chain_beside f site x xs y ys a b u l
 
         pub chain_of_halves : (n : Node) → IsMadeOf a.node b.node n → IsFusedOf (seen a.node) (seen b.node) (seen n)
             → IsBuiltPart (chain_of ps) (chain_meaning ps) f site (record { node = n; gives = b.gives; next = b.next })
@@ -108,11 +108,11 @@ module _ (f : Flow) (site most : ℕ) (ps xs ys : List Pipe) (c : IsCutIn ps xs 
                   → IsBuiltPart (chain_of (xs ++ ys)) (chain_meaning (xs ++ ys)) f site (record { node = n; gives = b.gives; next = b.next })
               of_rows [] ys h k v w t u l = absurd (omega arith)
               of_rows (x ∷ xs) [] h k v w t u l = absurd (omega arith)
-              of_rows (x ∷ xs) (y ∷ ys) h k v w t u l = chain_joined f site x xs y ys a b cut u l n v w t made fused
+              of_rows (x ∷ xs) (y ∷ ys) h k v w t u l = chain_joined f site x xs y ys a b u l n v w t made fused
 
 -- ---- sequences
 
-module _ (k : Sort) (f : Flow) (site most : ℕ) (ps xs ys : List Pipe) (c : IsCutIn ps xs ys) (cut : is_pieces f ≡ false)
+module _ (k : Sort) (f : Flow) (site most : ℕ) (ps xs ys : List Pipe) (c : IsCutIn ps xs ys)
     (fits : FitInSequence k f (map part ps)) (room : site + length (sequence_meaning ps).places < most)
   where
     halves_fit : (xs ys : List Pipe) → 0 < length ys → FitInSequence k f (map part (xs ++ ys)) → FitInSequence k f (map part xs) × AllExactOnCuts f (map part xs) × FitInSequence k f (map part ys)
@@ -149,7 +149,7 @@ module _ (k : Sort) (f : Flow) (site most : ℕ) (ps xs ys : List Pipe) (c : IsC
               → IsBuiltPart (sequence_of xs) (sequence_meaning xs) f site a → IsBuiltPart (sequence_of ys) (sequence_meaning ys) f a.next b → AreInTurn (seen a.node) (seen b.node)
           of_rows [] ys h j v w t u l = absurd (omega arith)
           of_rows (x ∷ xs) [] h j v w t u l = absurd (omega arith)
-          of_rows (x ∷ xs) (y ∷ ys) h j v w t u l = sequence_in_turn k f site x xs y ys a b cut v w t u l
+          of_rows (x ∷ xs) (y ∷ ys) h j v w t u l = sequence_in_turn k f site x xs y ys a b v w t u l
 
         pub sequence_of_halves : (n : Node) → IsMadeOf a.node b.node n → IsFollowedOf (seen a.node) (seen b.node) (seen n)
             → IsBuiltPart (sequence_of ps) (sequence_meaning ps) f site (record { node = n; gives = join a.gives b.gives; next = b.next })
@@ -161,4 +161,4 @@ module _ (k : Sort) (f : Flow) (site most : ℕ) (ps xs ys : List Pipe) (c : IsC
                   → IsBuiltPart (sequence_of (xs ++ ys)) (sequence_meaning (xs ++ ys)) f site (record { node = n; gives = join a.gives b.gives; next = b.next })
               of_rows [] ys h j v w t u l = absurd (omega arith)
               of_rows (x ∷ xs) [] h j v w t u l = absurd (omega arith)
-              of_rows (x ∷ xs) (y ∷ ys) h j v w t u l = sequence_joined k f site x xs y ys a b cut v w t u l n made followed
+              of_rows (x ∷ xs) (y ∷ ys) h j v w t u l = sequence_joined k f site x xs y ys a b v w t u l n made followed

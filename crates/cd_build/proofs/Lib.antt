@@ -6,6 +6,8 @@ pub mod Outputs
 pub mod Rows
 pub mod Sequences
 pub mod Trees
+pub mod TypedPieces
+pub mod TypedSplits
 pub mod TypedWords
 pub mod WordNodes
 pub mod Nodes

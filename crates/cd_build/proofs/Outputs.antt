@@ -1,20 +1,26 @@
--- Outputs and inputs of parts that take bytes, characters or nothing.
-use Rattle.std.proofs.Common.{◌≡◌, ℕ, ◌≤◌, ◌<◌, ◌⊎◌, inl, inr, Bool, true, false, ◌||◌, Some, None, refl, ap, sym, ◌∙◌, arith}
+-- Outputs and inputs of parts.
+use Rattle.std.proofs.Common.{◌≡◌, ℕ, ◌≤◌, ◌<◌, max, nat_lt, ◌⊎◌, inl, inr, Bool, true, false, ◌||◌, if◌then◌else◌, Some, None, refl, ap, sym, ◌∙◌, arith}
+use Rattle.std.proofs.lemmas.Bool.{ltb-true, ltb-false}
 use Rattle.cd_elem.specs.declared.kind.Kind.{Kind}
 use Rattle.cd_meaning.proofs.Moves.Fused.{IsGrade}
 use Rattle.cd_meaning.specs.Rest.{Grade, net_if}
-use Rattle.cd_step.specs.Parts.{of_pieces, sort_at, Meets, Agree, Shares, shared, joined, AreApart}
-use Rattle.cd_types.specs.Flows.{Flow, Sort, is_pieces, kind_sort, join}
+use Rattle.cd_step.specs.Parts.{of_pieces, sort_at, bound_at, Meets, Agree, Shares, shared, joined, AreApart}
+use Rattle.cd_types.specs.Flows.{Flow, Sort, is_pieces, kind_sort, kind_bound, kind_with, larger, join}
 use Rattle.cd_types.specs.Fitting.{IsOfSort}
 
 -- ---- kinds
 
-pub pieces_so : (f : Flow) → is_pieces f ≡ false → of_pieces f ≡ true → f ≡ None
-pieces_so None e h = refl
-pieces_so (Some Kind.Bytes) e h = let no : ⊥ = cc in absurd no
-pieces_so (Some Kind.Chars) e h = let no : ⊥ = cc in absurd no
-pieces_so (Some (Kind.Blocks m)) e h = let no : ⊥ = cc in absurd no
-pieces_so (Some (Kind.Texts m)) e h = let no : ⊥ = cc in absurd no
+-- a part that is idle or that pieces come to takes nothing or pieces
+pub compared : (f t : Flow) (idle : Bool) → (t ≡ None) ⊎ (t ≡ f) → (idle ≡ true → t ≡ None) → (idle || is_pieces f || false) ≡ true → of_pieces t ≡ true
+compared f t true o h e = ap of_pieces (h refl)
+compared f t false (inl k) h e = ap of_pieces k
+compared f t false (inr k) h e = ap of_pieces k ∙ comes f e where
+  comes : (f : Flow) → (is_pieces f || false) ≡ true → of_pieces f ≡ true
+  comes None e = refl
+  comes (Some Kind.Bytes) e = e
+  comes (Some Kind.Chars) e = e
+  comes (Some (Kind.Blocks m)) e = refl
+  comes (Some (Kind.Texts m)) e = refl
 
 -- a part that takes what comes, or nothing, reads it
 pub meets : (g k : Flow) → (k ≡ None) ⊎ (k ≡ g) → Meets g k
@@ -60,25 +66,65 @@ pub shared_so : (f g h : Flow) → (g ≡ None) ⊎ (g ≡ f) → (h ≡ None) �
 shared_so f None h a b = b
 shared_so f (Some j) h a b = a
 
--- outputs that come one behind the other, of which the first is no piece
-pub joined_is : (g h : Flow) → is_pieces g ≡ false → joined g h ≡ join g h
-joined_is None h e = refl
-joined_is (Some j) None e = refl
-joined_is (Some Kind.Bytes) (Some k) e = refl
-joined_is (Some Kind.Chars) (Some k) e = refl
-joined_is (Some (Kind.Blocks m)) (Some k) e = let no : ⊥ = cc in absurd no
-joined_is (Some (Kind.Texts m)) (Some k) e = let no : ⊥ = cc in absurd no
+-- ---- outputs that come one behind the other
 
-pub join_stays : (j : Kind) (h : Flow) → is_pieces (Some j) ≡ false → join (Some j) h ≡ Some j
-join_stays j None e = refl
-join_stays Kind.Bytes (Some k) e = refl
-join_stays Kind.Chars (Some k) e = refl
-join_stays (Kind.Blocks m) (Some k) e = let no : ⊥ = cc in absurd no
-join_stays (Kind.Texts m) (Some k) e = let no : ⊥ = cc in absurd no
+pub larger_is : (m n : ℕ) → larger m n ≡ max m n
+larger_is m n = by (nat_lt m n) refl where
+  by : (less : Bool) → nat_lt m n ≡ less → (if less then n else m) ≡ max m n
+  by true e = let l = ltb-true m n e in omega arith
+  by false e = let l = ltb-false m n e in omega arith
 
-pub join_no_pieces : (g h : Flow) → is_pieces g ≡ false → is_pieces h ≡ false → is_pieces (join g h) ≡ false
-join_no_pieces None h a b = b
-join_no_pieces (Some j) h a b = ap is_pieces (join_stays j h a) ∙ a
+bound_is : (m : ℕ) (k : Kind) → max m (bound_at k) ≡ larger m (kind_bound k)
+bound_is m Kind.Bytes = sym (larger_is m 0)
+bound_is m Kind.Chars = sym (larger_is m 0)
+bound_is m (Kind.Blocks n) = sym (larger_is m n)
+bound_is m (Kind.Texts n) = sym (larger_is m n)
+
+-- what a node gives and what the typing says
+pub joined_is : (g h : Flow) → joined g h ≡ join g h
+joined_is None h = refl
+joined_is (Some j) None = refl
+joined_is (Some Kind.Bytes) (Some k) = refl
+joined_is (Some Kind.Chars) (Some k) = refl
+joined_is (Some (Kind.Blocks m)) (Some k) = ap (λ (n : ℕ). Some (Kind.Blocks n)) (bound_is m k)
+joined_is (Some (Kind.Texts m)) (Some k) = ap (λ (n : ℕ). Some (Kind.Texts n)) (bound_is m k)
+
+most_of_three : (m p q : ℕ) → larger (larger m p) q ≡ larger m (larger p q)
+most_of_three m p q =
+    larger_is (larger m p) q
+    ∙ ap (λ (n : ℕ). max n q) (larger_is m p)
+    ∙ associates m p q
+    ∙ ap (λ (n : ℕ). max m n) (sym (larger_is p q))
+    ∙ sym (larger_is m (larger p q)) where
+      associates : (m p q : ℕ) → max (max m p) q ≡ max m (max p q)
+      associates m p q = omega arith
+
+-- the bound of two of one sort
+bound_of_both : (j k : Kind) → kind_sort j ≡ kind_sort k → kind_bound (kind_with j (larger (kind_bound j) (kind_bound k))) ≡ larger (kind_bound j) (kind_bound k)
+bound_of_both Kind.Bytes Kind.Bytes e = refl
+bound_of_both Kind.Bytes Kind.Chars e = refl
+bound_of_both Kind.Bytes (Kind.Blocks n) e = let no : ⊥ = cc in absurd no
+bound_of_both Kind.Bytes (Kind.Texts n) e = let no : ⊥ = cc in absurd no
+bound_of_both Kind.Chars Kind.Bytes e = refl
+bound_of_both Kind.Chars Kind.Chars e = refl
+bound_of_both Kind.Chars (Kind.Blocks n) e = let no : ⊥ = cc in absurd no
+bound_of_both Kind.Chars (Kind.Texts n) e = let no : ⊥ = cc in absurd no
+bound_of_both (Kind.Blocks m) k e = refl
+bound_of_both (Kind.Texts m) k e = refl
+
+bounds_in_turn : (m : ℕ) (j k : Kind) → kind_sort j ≡ kind_sort k
+    → larger (larger m (kind_bound j)) (kind_bound k) ≡ larger m (kind_bound (kind_with j (larger (kind_bound j) (kind_bound k))))
+bounds_in_turn m j k e = most_of_three m (kind_bound j) (kind_bound k) ∙ ap (larger m) (sym (bound_of_both j k e))
+
+-- of three outputs, of which the second and the third are of one sort, it is the same which two are joined first
+pub join_in_turn : (s : Sort) (g h i : Flow) → IsOfSort s h → IsOfSort s i → join (join g h) i ≡ join g (join h i)
+join_in_turn s None h i a b = refl
+join_in_turn s (Some j) None i a b = refl
+join_in_turn s (Some j) (Some k) None a b = refl
+join_in_turn s (Some Kind.Bytes) (Some k) (Some l) a b = refl
+join_in_turn s (Some Kind.Chars) (Some k) (Some l) a b = refl
+join_in_turn s (Some (Kind.Blocks m)) (Some k) (Some l) a b = ap (λ (n : ℕ). Some (Kind.Blocks n)) (bounds_in_turn m k l (a ∙ sym b))
+join_in_turn s (Some (Kind.Texts m)) (Some k) (Some l) a b = ap (λ (n : ℕ). Some (Kind.Texts n)) (bounds_in_turn m k l (a ∙ sym b))
 
 -- ---- grades
 

@@ -10,33 +10,15 @@ use Rattle.cd_meaning.proofs.Halves.{IsSame, same_in_turn}
 use Rattle.cd_step.proofs.Sides.{shared_right}
 use Rattle.cd_step.specs.Parts.{Part, of_pieces, both_sites, joined, shared, Agree}
 use Rattle.cd_types.specs.Fitting.{FitInSequence, IsExactOnCuts, AllExactOnCuts, IsOfSort}
-use Rattle.cd_types.specs.Flows.{Flow, Sort, bound_of, is_cut, is_pieces, join, kind_bound, larger, sort_in}
+use Rattle.cd_types.specs.Flows.{Flow, Sort, bound_of, is_cut, join, kind_bound, larger, sort_in}
 use Rattle.cd_types.specs.Parts.{Part as TypedPart, is_last}
 use Rattle.cd_types.specs.Sequences.{all_exact, all_idle, joined_from, joined_outputs, sequence_part, sequence_types}
 use Rattle.cd_types.proofs.Fitting.{keeps_kind}
 use Rattle.cd_types.proofs.Sums.{bounds_append}
 use Rattle.cd_build.specs.Builds.{IsBuiltAs}
-use Rattle.cd_build.proofs.Outputs.{agree_so, shares, shared_so, joined_is, join_stays, or_so, apart}
+use Rattle.cd_build.proofs.Outputs.{agree_so, shares, shared_so, joined_is, join_in_turn, or_so, apart}
 
 -- ---- what two lists of parts give
-
-stays : (j : Kind) (f : Flow) (ys : List TypedPart) → is_pieces (Some j) ≡ false → joined_from (Some j) f ys ≡ Some j
-stays j f [] e = refl
-stays j f (y ∷ ys) e = ap (λ g. joined_from g f ys) (join_stays j (y.type f).to e) ∙ stays j f ys e
-
-behind_one : (g f : Flow) (y : TypedPart) (ys : List TypedPart) → is_pieces g ≡ false → joined_from g f (y ∷ ys) ≡ join g (joined_outputs f (y ∷ ys))
-behind_one None f y ys e = refl
-behind_one (Some j) f y ys e = stays j f (y ∷ ys) e ∙ sym (join_stays j (joined_outputs f (y ∷ ys)) e)
-
-joined_behind : (g f : Flow) (xs ys : List TypedPart) → joined_from g f (xs ++ ys) ≡ joined_from (joined_from g f xs) f ys
-joined_behind g f [] ys = refl
-joined_behind g f (x ∷ xs) ys = joined_behind (join g (x.type f).to) f xs ys
-
-pub outputs_behind : (f : Flow) (x : TypedPart) (xs : List TypedPart) (y : TypedPart) (ys : List TypedPart) → is_pieces (joined_outputs f (x ∷ xs)) ≡ false
-    → joined_outputs f (x ∷ xs ++ y ∷ ys) ≡ join (joined_outputs f (x ∷ xs)) (joined_outputs f (y ∷ ys))
-outputs_behind f x xs y ys e =
-    joined_behind (x.type f).to f xs (y ∷ ys)
-    ∙ behind_one (joined_outputs f (x ∷ xs)) f y ys e
 
 of_sort : (k : Sort) (g h : Flow) → IsOfSort k g → IsOfSort k h → IsOfSort k (join g h)
 of_sort k None h a b = b
@@ -49,6 +31,23 @@ from_sort k g f (x ∷ xs) o h = from_sort k (join g (x.type f).to) f xs (of_sor
 
 pub outputs_of_sort : (k : Sort) (f : Flow) (x : TypedPart) (xs : List TypedPart) → FitInSequence k f (x ∷ xs) → IsOfSort k (joined_outputs f (x ∷ xs))
 outputs_of_sort k f x xs h = from_sort k (x.type f).to f xs h.1 h.3
+
+joined_behind : (g f : Flow) (xs ys : List TypedPart) → joined_from g f (xs ++ ys) ≡ joined_from (joined_from g f xs) f ys
+joined_behind g f [] ys = refl
+joined_behind g f (x ∷ xs) ys = joined_behind (join g (x.type f).to) f xs ys
+
+-- behind what gives g, parts give what they join to it
+joined_in_turn : (k : Sort) (g h f : Flow) (ys : List TypedPart) → IsOfSort k h → FitInSequence k f ys → joined_from (join g h) f ys ≡ join g (joined_from h f ys)
+joined_in_turn k g h f [] o t = refl
+joined_in_turn k g h f (y ∷ ys) o t =
+    ap (λ j. joined_from j f ys) (join_in_turn k g h (y.type f).to o t.1)
+    ∙ joined_in_turn k g (join h (y.type f).to) f ys (of_sort k h (y.type f).to o t.1) t.3
+
+pub outputs_behind : (k : Sort) (f : Flow) (x : TypedPart) (xs : List TypedPart) (y : TypedPart) (ys : List TypedPart) → FitInSequence k f (y ∷ ys)
+    → joined_outputs f (x ∷ xs ++ y ∷ ys) ≡ join (joined_outputs f (x ∷ xs)) (joined_outputs f (y ∷ ys))
+outputs_behind k f x xs y ys t =
+    joined_behind (x.type f).to f xs (y ∷ ys)
+    ∙ joined_in_turn k (joined_outputs f (x ∷ xs)) (y.type f).to f ys t.1 t.3
 
 -- ---- the halves of a sequence
 
@@ -107,19 +106,18 @@ pub record IsFollowedOf (a b n : Part) : Type 0 where
   pub sites : (t : ℕ) → n.sites t ≡ both_sites a.sites b.sites t
   pub means : (z : Seen) (xs : List Item) (e : End) → n.run z xs e ≡ sequence (a.run z) (b.run z) xs e
 
--- a first half is exact where bytes or characters come, and where it takes nothing
-first_exact : (f : Flow) (a : Part) → is_pieces f ≡ false → (a.takes ≡ None) ⊎ (a.takes ≡ f) → (is_cut f ≡ true → a.grade.exact ≡ true) → (a.takes ≡ None → a.grade.exact ≡ true)
+-- a first half is exact where bytes or characters come, and where it takes pieces or nothing
+first_exact : (f : Flow) (a : Part) → (a.takes ≡ None) ⊎ (a.takes ≡ f) → (is_cut f ≡ true → a.grade.exact ≡ true) → (of_pieces a.takes ≡ true → a.grade.exact ≡ true)
     → a.grade.exact ≡ true
-first_exact None a c (inl e) h k = k e
-first_exact None a c (inr e) h k = k e
-first_exact (Some Kind.Bytes) a c o h k = h refl
-first_exact (Some Kind.Chars) a c o h k = h refl
-first_exact (Some (Kind.Blocks m)) a c o h k = let no : ⊥ = cc in absurd no
-first_exact (Some (Kind.Texts m)) a c o h k = let no : ⊥ = cc in absurd no
+first_exact f a (inl e) h k = k (ap of_pieces e)
+first_exact None a (inr e) h k = k (ap of_pieces e)
+first_exact (Some Kind.Bytes) a (inr e) h k = h refl
+first_exact (Some Kind.Chars) a (inr e) h k = h refl
+first_exact (Some (Kind.Blocks m)) a (inr e) h k = k (ap of_pieces e)
+first_exact (Some (Kind.Texts m)) a (inr e) h k = k (ap of_pieces e)
 
 -- Two nodes that are built, of parts one behind the other.
 module _ (k : Sort) (f : Flow) (x : TypedPart) (xs : List TypedPart) (y : TypedPart) (ys : List TypedPart) (ma mb mw : Meaning) (site : ℕ) (a b : Part)
-    (cut : is_pieces f ≡ false)
     (first : FitInSequence k f (x ∷ xs)) (exact : AllExactOnCuts f (x ∷ xs)) (second : FitInSequence k f (y ∷ ys))
     (u : IsBuiltAs (sequence_part (x ∷ xs)) ma f site a)
     (l : IsBuiltAs (sequence_part (y ∷ ys)) mb f (site + length ma.places) b)
@@ -127,7 +125,7 @@ module _ (k : Sort) (f : Flow) (x : TypedPart) (xs : List TypedPart) (y : TypedP
     pub in_turn : AreInTurn a b
     in_turn = record {
       apart = apart a.sites b.sites (site + length ma.places) (λ t e. (u.sites t e).1) (λ t e. (l.sites t e).0);
-      exact = first_exact f a cut u.takes (λ c. u.exact (all_exact_so f (x ∷ xs) c exact)) (λ e. u.graded (u.pieces ∙ ap of_pieces e));
+      exact = first_exact f a u.takes (λ c. u.exact (all_exact_so f (x ∷ xs) c exact)) (λ e. u.graded (u.pieces ∙ e));
       first = u.pieces;
       second = l.pieces;
       gives = subst (λ g. Agree g b.gives) (sym u.gives) (subst (Agree (joined_outputs f (x ∷ xs))) (sym l.gives)
@@ -136,7 +134,6 @@ module _ (k : Sort) (f : Flow) (x : TypedPart) (xs : List TypedPart) (y : TypedP
     }
 
     module _ (n : Part) (h : IsFollowedOf a b n)
-        (no_pieces : is_pieces (joined_outputs f (x ∷ xs)) ≡ false)
         (same : (z : Seen) → IsSame (mw.run (sort_in f) site z) ((sequence_form ma mb).run (sort_in f) site z))
         (places : length mw.places ≡ length ma.places + length mb.places)
       where
@@ -154,7 +151,7 @@ module _ (k : Sort) (f : Flow) (x : TypedPart) (xs : List TypedPart) (y : TypedP
               ∙ same_in_turn (a.run z) (ma.run (sort_in f) site z) (b.run z) (mb.run (sort_in f) (site + length ma.places) z) (u.means z) (l.means z) zs e
               ∙ sym (same z zs e);
           gives = h.gives ∙ ap (λ g. joined g b.gives) u.gives ∙ ap (joined (joined_outputs f (x ∷ xs))) l.gives
-              ∙ joined_is (joined_outputs f (x ∷ xs)) (joined_outputs f (y ∷ ys)) no_pieces ∙ sym (outputs_behind f x xs y ys no_pieces);
+              ∙ joined_is (joined_outputs f (x ∷ xs)) (joined_outputs f (y ∷ ys)) ∙ sym (outputs_behind k f x xs y ys second);
           takes = subst (λ t. (t ≡ None) ⊎ (t ≡ f)) (sym h.takes) (shared_so f a.takes b.takes u.takes l.takes);
           idle = λ e. let i = idle_both f (x ∷ xs) (y ∷ ys) e in h.takes ∙ none_shared (u.idle i.0) (l.idle i.1);
           exact = λ e. h.exact ∙ l.exact (exact_behind f (x ∷ xs) (y ∷ ys) e);

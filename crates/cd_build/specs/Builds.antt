@@ -1,17 +1,20 @@
 -- What holds of a node that is built for a pipe.
-use Rattle.std.specs.Prelude.{◌≡◌, ℕ, ◌+◌, ◌<◌, ◌≤◌, true, IsTrue, List, length, map, None, Some, ◌⊎◌}
+use Rattle.std.specs.Prelude.{◌≡◌, ℕ, ◌+◌, ◌<◌, ◌≤◌, true, false, IsTrue, List, length, map, None, ◌⊎◌}
 use Rattle.cd_elem.specs.declared.script.Join.{Join}
 use Rattle.cd_elem.specs.declared.script.Pipe.{Pipe}
+use Rattle.cd_elem.specs.declared.word.Word.{Word}
 use Rattle.cd_meaning.specs.Meaning.{Meaning, piped, sequence_form}
 use Rattle.cd_meaning.specs.Pipes.{all_of, pipe_meaning}
 use Rattle.cd_meaning.specs.RunShapes.{Seen}
 use Rattle.cd_meaning.specs.Stream.{Item, End}
 use Rattle.cd_step.specs.Parts.{Part, of_pieces}
 use Rattle.cd_types.specs.Chains.{chain_part}
-use Rattle.cd_types.specs.Flows.{Flow, Kind, Sort, sort_in}
+use Rattle.cd_types.specs.declared.refusal.RefusalKind.{RefusalKind}
+use Rattle.cd_types.specs.Flows.{Flow, sort_in}
 use Rattle.cd_types.specs.Parts.{Part as TypedPart}
 use Rattle.cd_types.specs.Sequences.{sequence_part}
 use Rattle.cd_types.specs.Trees.{part}
+use Rattle.cd_types.specs.WordTypes.{word_fails}
 use Rattle.cd_build.specs.Built.{is_built, all_true}
 
 -- The part that is seen does what the pipe means for what comes to it, where its first site has this number, and stands as the typing says of it.
@@ -26,13 +29,9 @@ pub record IsBuiltAs (a : TypedPart) (m : Meaning) (f : Flow) (site : ℕ) (p : 
   pub graded : p.grade.pieces ≡ true → p.grade.exact ≡ true
   pub sites : (t : ℕ) → p.sites t ≡ true → (site ≤ t) × (t < site + length m.places)
 
--- bytes or characters come, and this is their sort
-abbrev pub IsCutAt : Flow → Sort → Type 0
-IsCutAt (Some Kind.Bytes) k = k ≡ Sort.Bytes
-IsCutAt (Some Kind.Chars) k = k ≡ Sort.Chars
-IsCutAt (Some (Kind.Blocks m)) k = ⊥
-IsCutAt (Some (Kind.Texts m)) k = ⊥
-IsCutAt None k = ⊥
+-- nothing is refused at the word, for what comes to it
+abbrev pub IsPassed : Word → Flow → Type 0
+IsPassed w f = (fails : RefusalKind) → word_fails w f fails ≡ false
 
 -- each member is built
 abbrev pub AreBuilt : List Pipe → Type 0

@@ -1,30 +1,48 @@
--- Which pipes are built: those of element words, of the words that read and write files and the standard streams, `mark`, chains by `|`, and sequences.
-use Rattle.std.specs.Prelude.{◌≡◌, ℕ, nat_le, Bool, true, false, ◌&&◌, IsTrue, List, [], ◌∷◌, map}
+-- Which pipes are built: those of all words but the ones between bytes and characters and the base words, `mark`, chains by `|`, and sequences.
+use Rattle.std.specs.Prelude.{◌≡◌, ℕ, nat_le, nat_lt, Bool, true, false, ◌&&◌, IsTrue, List, [], ◌∷◌, map}
 use Rattle.std.proofs.Common.{◌∙◌, ap, sym}
-use Rattle.cd_elem.specs.Limits.{repeat_limit, collect_limit}
+use Rattle.cd_elem.specs.Limits.{chunk_limit, repeat_limit, collect_limit}
 use Rattle.cd_elem.specs.declared.word.Word.{Word}
 use Rattle.cd_elem.specs.declared.word.ElemWord.{ElemWord}
-use Rattle.cd_elem.specs.declared.word.SourceWord.{SourceWord}
+use Rattle.cd_elem.specs.declared.word.PieceWord.{PieceWord}
+use Rattle.cd_elem.specs.declared.word.SplitWord.{SplitWord}
 use Rattle.cd_elem.specs.declared.script.Join.{Join}
 use Rattle.cd_elem.specs.declared.script.Pipe.{Pipe}
 use Rattle.cd_elem.specs.declared.script.Pipe.TheVariants as pipe
 use Rattle.cd_elem.specs.declared.script.Pipe.TheOpen.{Pipe-F}
 use Rattle.cd_elem.specs.declared.script.Pipe.TheFolds.{fold-Pipe, fold-roll-Pipe}
 
--- its numbers are in their ranges
+-- ---- words whose numbers are in their ranges
+
 abbrev pub is_in_range : ElemWord → Bool
 is_in_range (ElemWord.RepeatE n) = nat_le n repeat_limit
 is_in_range (ElemWord.CollectE n) = nat_le n collect_limit
 is_in_range _ = true
 
-abbrev pub is_built_source : SourceWord → Bool
-is_built_source (SourceWord.SourceFile name) = true
-is_built_source SourceWord.Stdin = true
-is_built_source _ = false
+abbrev pub is_piece_in_range : PieceWord → Bool
+is_piece_in_range (PieceWord.Repeat n) = nat_le n repeat_limit
+is_piece_in_range (PieceWord.Collect n) = nat_le n collect_limit
+is_piece_in_range _ = true
+
+-- the greatest length of a piece that elements are cut into
+abbrev pub is_length : ℕ → Bool
+is_length n = nat_lt 0 n && nat_le n chunk_limit
+
+abbrev pub is_split_in_range : SplitWord → Bool
+is_split_in_range (SplitWord.Lines n) = is_length n
+is_split_in_range (SplitWord.Split separator n) = is_length n
+is_split_in_range (SplitWord.Exact n) = is_length n
+is_split_in_range (SplitWord.ChunksOf n) = is_length n
+is_split_in_range SplitWord.Flat = true
+is_split_in_range SplitWord.Unlines = true
+
+-- ---- pipes
 
 abbrev pub is_built_word : Word → Bool
 is_built_word (Word.Elem w) = is_in_range w
-is_built_word (Word.Source w) = is_built_source w
+is_built_word (Word.Piece w) = is_piece_in_range w
+is_built_word (Word.Split w) = is_split_in_range w
+is_built_word (Word.Source w) = true
 is_built_word (Word.Sink w) = true
 is_built_word _ = false
 

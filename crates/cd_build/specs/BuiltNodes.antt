@@ -1,18 +1,24 @@
 -- What holds of nodes that are built.
-use Rattle.std.specs.Prelude.{◌≡◌, ℕ, ◌+◌, false, List, length, Some}
+use Rattle.std.specs.Prelude.{◌≡◌, ◌⊎◌, ℕ, ◌+◌, true, false, List, [], length, Some, None}
 use Rattle.cd_elem.specs.declared.script.Pipe.{Pipe}
 use Rattle.cd_elem.specs.declared.script.Stmt.{Stmt}
 use Rattle.cd_meaning.specs.Meaning.{Meaning}
+use Rattle.cd_elem.specs.declared.word.Word.{Word}
 use Rattle.cd_meaning.specs.Places.{Place}
+use Rattle.cd_meaning.specs.RunShapes.{Seen}
+use Rattle.cd_meaning.specs.Stream.{End, Item}
+use Rattle.cd_meaning.specs.WordMeanings.{word_meaning}
 use Rattle.cd_node.specs.Makes.{IsUnstarted}
 use Rattle.cd_node.specs.Trees.{IsWell, StandsAt, bound_of, seen}
 use Rattle.cd_node.specs.declared.node.Node.{Node}
+use Rattle.cd_step.specs.Parts.{of_pieces}
 use Rattle.cd_typed.specs.TypedScripts.{IsTyped}
 use Rattle.cd_typed.specs.declared.typed.Typed.{Typed}
-use Rattle.cd_types.specs.Flows.{Flow, is_pieces}
+use Rattle.cd_types.specs.Flows.{Flow, sort_in}
 use Rattle.cd_types.specs.Flows as flows
 use Rattle.cd_types.specs.Numbering.{StandFrom, numbered}
 use Rattle.cd_types.specs.Parts.{Part as TypedPart}
+use Rattle.cd_types.specs.WordTypes.{is_source, word_bound, word_gives}
 use Rattle.cd_build.specs.Built.{IsBuilt}
 use Rattle.cd_build.specs.Builds.{IsBuiltAs}
 use Rattle.cd_build.specs.declared.pipes.Built.{Built}
@@ -25,12 +31,28 @@ pub record IsBuiltNode (a : TypedPart) (m : Meaning) (f : Flow) (site : ℕ) (n 
   pub bound : bound_of n ≡ flows.bound_of (a.types f)
   pub places : (place : ℕ → Place) → StandFrom place site m.places → StandsAt n place
 
--- with what it gives, which is no pieces, and the number of the site behind it
+-- with what it gives, and the number of the site behind it
 pub record IsBuiltPart (a : TypedPart) (m : Meaning) (f : Flow) (site : ℕ) (b : Built) : Type 0 where
   pub node : IsBuiltNode a m f site b.node
   pub gives : b.gives ≡ (a.type f).to
-  pub no_pieces : is_pieces b.gives ≡ false
   pub next : b.next ≡ site + length m.places
+
+-- ---- words
+
+-- The node is that of a word which is no site, for what comes to it.
+pub record IsWordNode (w : Word) (f : Flow) (n : Node) : Type 0 where
+  pub siteless : (word_meaning w).places ≡ []
+  pub well : IsWell n
+  pub unstarted : IsUnstarted (seen n)
+  pub gives : (seen n).gives ≡ word_gives w f
+  pub takes : ((seen n).takes ≡ None) ⊎ ((seen n).takes ≡ f)
+  pub idle : is_source w ≡ true → (seen n).takes ≡ None
+  pub pieces : (seen n).grade.pieces ≡ of_pieces (seen n).takes
+  pub exact : (seen n).grade.exact ≡ true
+  pub sites : (t : ℕ) → (seen n).sites t ≡ false
+  pub places : (place : ℕ → Place) → StandsAt n place
+  pub bound : bound_of n ≡ word_bound w f
+  pub means : (z : Seen) (site : ℕ) (told : Seen) (xs : List Item) (end : End) → (seen n).run z xs end ≡ (word_meaning w).run (sort_in f) site told xs end
 
 -- ---- statements
 

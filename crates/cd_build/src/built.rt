@@ -2,13 +2,16 @@
 ghost use Rattle.std.specs.Prelude.{◌≡◌, map};
 ghost use Rattle.cd_build.specs.Built as spec;
 
-use cd_elem::{ElemWord, Join, Pipe, SourceWord, Word};
+use cd_elem::{ElemWord, Join, PieceWord, Pipe, SplitWord, Word};
 
 /// The most that something is repeated.
 const REPEAT_LIMIT: u64 = 4_096;
 
 /// The most that is collected.
 const COLLECT_LIMIT: u64 = 16_777_216;
+
+/// The greatest length of a piece that elements are cut into.
+const LENGTH_LIMIT: u64 = 65_536;
 
 fn is_in_range(word: ElemWord) -> bool
     ensures { result ≡ spec.is_in_range word }
@@ -20,19 +23,42 @@ fn is_in_range(word: ElemWord) -> bool
     }
 }
 
+fn is_piece_in_range(word: &PieceWord) -> bool
+    ensures { result ≡ spec.is_piece_in_range word.now }
+{
+    match word {
+        PieceWord::Repeat(times) => *times <= REPEAT_LIMIT,
+        PieceWord::Collect(count) => *count <= COLLECT_LIMIT,
+        _ => true,
+    }
+}
+
+fn is_split_in_range(word: SplitWord) -> bool
+    ensures { result ≡ spec.is_split_in_range word }
+{
+    match word {
+        SplitWord::Lines(most)
+        | SplitWord::Split(_, most)
+        | SplitWord::Exact(most)
+        | SplitWord::ChunksOf(most) => 0 < most && most <= LENGTH_LIMIT,
+        SplitWord::Flat | SplitWord::Unlines => true,
+    }
+}
+
 fn is_built_word(word: &Word) -> bool
     ensures { result ≡ spec.is_built_word word.now }
 {
     match word {
         Word::Elem(word) => is_in_range(*word),
-        Word::Source(SourceWord::SourceFile(_) | SourceWord::Stdin) => true,
-        Word::Sink(_) => true,
+        Word::Piece(word) => is_piece_in_range(word),
+        Word::Split(word) => is_split_in_range(*word),
+        Word::Source(_) | Word::Sink(_) => true,
         _ => false,
     }
 }
 
-/// Whether the node of a pipe is built: that of element words with numbers in their ranges, of `sourceFile`, `stdin`,
-/// `sinkFile` and `stdout`, of `mark`, of chains by `|`, and of sequences. Each part is looked at once.
+/// Whether the node of a pipe is built: that of element words, piece words, splitters, sources and sinks with numbers in
+/// their ranges, of `mark`, of chains by `|`, and of sequences. Each part is looked at once.
 #[cycle(built)]
 pub fn is_built(pipe: &Pipe) -> bool
     ensures { result ≡ spec.is_built pipe.now }

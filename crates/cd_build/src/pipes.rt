@@ -1,9 +1,9 @@
 // The nodes of pipes.
-ghost use Rattle.std.specs.Prelude.{◌≡◌, ◌+◌, ◌<◌, ◌^◌, ℕ, List, IfOk, IsTrue, false, length, map};
+ghost use Rattle.std.specs.Prelude.{◌≡◌, ◌+◌, ◌<◌, ◌^◌, ℕ, List, IfOk, IsTrue, length, map};
 ghost use Rattle.cd_meaning.specs.Meaning.{mark_form};
 ghost use Rattle.cd_meaning.specs.Pipes.{pipe_meaning};
 ghost use Rattle.cd_types.specs.Fitting.{FitInChain, FitInSequence, Fits};
-ghost use Rattle.cd_types.specs.Flows.{Sort, is_pieces};
+ghost use Rattle.cd_types.specs.Flows.{Sort};
 ghost use Rattle.cd_types.specs.Forms.{mark_part};
 ghost use Rattle.cd_types.specs.Trees.{part};
 ghost use Rattle.cd_build.specs.Built.{IsBuilt};
@@ -34,7 +34,6 @@ pub fn build_pipe(
 ) -> Result<Built, NoMemory>
     requires built { IsBuilt pipe.now }
     requires typed { Fits takes (part pipe.now) }
-    requires cut { is_pieces takes ≡ false }
     requires room { site + length (pipe_meaning pipe.now).places < 2 ^ 32 }
     ensures { IfOk result (IsBuiltPart (part pipe.now) (pipe_meaning pipe.now) takes site) }
 {
@@ -53,7 +52,6 @@ pub fn build_pipe(
 fn build_mark(alloc: Global, body: &Pipe, takes: Option<Kind>, site: u32) -> Result<Built, NoMemory>
     requires built { IsBuilt body.now }
     requires typed { Fits takes (part body.now) }
-    requires cut { is_pieces takes ≡ false }
     requires room { site + 1 + length (pipe_meaning body.now).places < 2 ^ 32 }
     ensures { (name : List ℕ) → IfOk result (IsBuiltPart (mark_part name (part body.now)) (mark_form name (pipe_meaning body.now)) takes site) }
 {
@@ -73,7 +71,6 @@ fn build_chain(
     requires some { 0 < length members.now }
     requires built { AreBuilt members.now }
     requires typed { FitInChain takes (map part members.now) }
-    requires cut { is_pieces takes ≡ false }
     requires room { site + length (chain_meaning members.now).places < 2 ^ 32 }
     ensures { IfOk result (IsBuiltPart (chain_of members.now) (chain_meaning members.now) takes site) }
 {
@@ -115,7 +112,6 @@ fn build_sequence(
     requires some { 0 < length parts.now }
     requires built { AreBuilt parts.now }
     requires typed { (k : Sort) × FitInSequence k takes (map part parts.now) }
-    requires cut { is_pieces takes ≡ false }
     requires room { site + length (sequence_meaning parts.now).places < 2 ^ 32 }
     ensures { IfOk result (IsBuiltPart (sequence_of parts.now) (sequence_meaning parts.now) takes site) }
 {

@@ -25,7 +25,8 @@ use Rattle.cd_elemwise.specs.declared.state.WordState.TheVariants as state
 use Rattle.cd_elemwise.specs.Carried.{Carried, Doing, Emits, IsChunkOf, MapFits, gathered, list_sort, single_of, single_plain, single_value, list_value, carried_ready, word_scan}
 use Rattle.cd_elemwise.specs.Plans.{IsPlan}
 use Rattle.cd_elemwise.specs.Stages.{IsPlain, StateFits}
-use Rattle.cd_elemwise.proofs.WordReads.{elems, outs, read_pass, read_take, read_while, read_filter, read_map, read_repeat, silent_repeat, silent_filter, silent_drop, silent_collect, silent_length, silent_sum, silent_last, silent_while, silent_all, done_take_while, done_drop_while, done_all, done_head, done_peek, done_null, done_drop, done_collect}
+use Rattle.cd_step.specs.CutChunks.{elems}
+use Rattle.cd_elemwise.proofs.WordReads.{outs, read_pass, read_take, read_while, read_filter, read_map, read_repeat, silent_repeat, silent_filter, silent_drop, silent_collect, silent_length, silent_sum, silent_last, silent_while, silent_all, done_take_while, done_drop_while, done_all, done_head, done_peek, done_null, done_drop, done_collect}
 
 -- ---- results
 

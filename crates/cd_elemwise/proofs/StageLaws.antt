@@ -1,6 +1,6 @@
 -- What a stage does is the next step of its part.
 use Rattle.std.proofs.Common.{◌≡◌, ℕ, zero, suc, ◌+◌, ◌≤◌, ◌<◌, Bool, true, false, List, [], ◌∷◌, ◌++◌, length, map, take, drop, refl, ap, sym, ◌∙◌, subst, Option, Some, None, IsTrue, arith}
-use Rattle.std.proofs.lemmas.List.{length-map, length-take-le, take-append-drop}
+use Rattle.std.proofs.lemmas.List.{length-take-le}
 use Rattle.std.proofs.Math.ListN.{drop_of_length-le}
 use Rattle.std.proofs.Math.Seq.{take-length}
 use Rattle.cd_elem.specs.Limits.{chunk_limit}
@@ -21,6 +21,8 @@ use Rattle.cd_step.specs.Parts.{Chunk, Part, part_at, items, items_at, rest_item
 use Rattle.cd_step.specs.Parts as part
 use Rattle.cd_step.specs.Flows.{Retires}
 use Rattle.cd_step.specs.Reading.{scan_rest, part_of, IsRead, IsSilent}
+use Rattle.cd_step.specs.CutChunks.{elems, kind_of, IsChunkOf}
+use Rattle.cd_step.proofs.CutChunks.{cut_items, cut_is, cut_rest, cut_given, given_weight, elems_split, size_of}
 use Rattle.cd_step.proofs.Outs.{stand_wait}
 use Rattle.cd_step.proofs.Weighing.{weigh_back}
 use Rattle.cd_step.proofs.Reading.{goes_counted, kept_fed, need_law, emit_law, done_finishes, close_finishes, done_ready, floor_told, chunk_law, end_law, retire_law, scan_sound}
@@ -28,55 +30,16 @@ use Rattle.cd_elemwise.specs.declared.state.WordState.{WordState}
 use Rattle.cd_elemwise.specs.declared.state.WordState.TheVariants as state
 use Rattle.cd_elemwise.specs.declared.stage.ElemStage.{ElemStage}
 use Rattle.cd_elemwise.specs.declared.plan.ChunkPlan.TheVariants as plan
-use Rattle.cd_elemwise.specs.Carried.{Carried, Doing, Emits, IsChunkOf, gathered, kind_of, gives_of, state_ready, state_value, word_scan}
+use Rattle.cd_elemwise.specs.Carried.{Carried, Doing, Emits, gathered, gives_of, state_ready, state_value, word_scan}
 use Rattle.cd_elemwise.specs.Plans.{IsPlan}
 use Rattle.cd_elemwise.specs.Stages.{grade_of, carries, may_carry, IsPlain, carried, held_of, seen_stage, seen_from, with_chunk, StandFits, KeepsBounds, stage_fits, IsSameStage, Went, asks_of, IsFinal}
-use Rattle.cd_elemwise.proofs.WordReads.{elems, outs}
-
--- ---- chunks of cut streams
+use Rattle.cd_elemwise.proofs.WordReads.{outs}
 
 cut_pieces : (k : Sort) → IsTrue (is_cut k) → (grade_of k).pieces ≡ false
 cut_pieces Sort.Bytes h = refl
 cut_pieces Sort.Chars h = refl
 cut_pieces Sort.Block h = cc
 cut_pieces Sort.Text h = cc
-
-items_of_cut : (k : Sort) (numbers : List ℕ) → IsTrue (is_cut k) → items_at k numbers ≡ elems numbers
-items_of_cut Sort.Bytes numbers h = refl
-items_of_cut Sort.Chars numbers h = refl
-items_of_cut Sort.Block numbers h = cc
-items_of_cut Sort.Text numbers h = cc
-
-cut_items : (k : Sort) (c : Chunk) → IsTrue (is_cut k) → c.0 ≡ k → items c ≡ elems c.1
-cut_items k c h e = ap (λ s. items_at s c.1) e ∙ items_of_cut k c.1 h
-
-chunk_of_cut : (k : Sort) (numbers : List ℕ) → IsTrue (is_cut k) → 0 < length numbers → length numbers ≤ chunk_limit → IsChunk (kind_of k) (k, numbers)
-chunk_of_cut Sort.Bytes numbers h f m = (subst (λ n. 0 < n) (sym (length-map numbers Elem)) f, refl, m)
-chunk_of_cut Sort.Chars numbers h f m = (subst (λ n. 0 < n) (sym (length-map numbers Elem)) f, refl, m)
-chunk_of_cut Sort.Block numbers h f m = cc
-chunk_of_cut Sort.Text numbers h f m = cc
-
-cut_is : (k : Sort) (c : Chunk) → IsTrue (is_cut k) → c.0 ≡ k → 0 < length c.1 → length c.1 ≤ chunk_limit → IsChunk (kind_of k) c
-cut_is k c h e f m = subst (λ s. IsChunk (kind_of k) (s, c.1)) (sym e) (chunk_of_cut k c.1 h f m)
-
-cut_rest : (k : Sort) (numbers : List ℕ) (r : Option Chunk) → IsTrue (is_cut k) → IsChunkOf k numbers r → rest_items r ≡ elems numbers
-cut_rest k numbers None h e = ap elems (sym e)
-cut_rest k numbers (Some c) h e = cut_items k c h (ap (λ x. x.0) e.0) ∙ ap (λ x. elems x.1) e.0
-
-cut_given : (k : Sort) (numbers : List ℕ) (r : Option Chunk) → IsTrue (is_cut k) → IsChunkOf k numbers r → IsGiven (Some (kind_of k)) r
-cut_given k numbers None h e = tt
-cut_given k numbers (Some c) h e = subst (IsChunk (kind_of k)) (sym e.0) (chunk_of_cut k numbers h e.1 e.2)
-
-given_weight : (k : Sort) (r : Option Chunk) → IsGiven (Some (kind_of k)) r → weight_any r ≤ chunk_at (kind_of k)
-given_weight k None h = omega arith
-given_weight k (Some c) h = h.2
-
-elems_append : (u v : List ℕ) → elems (u ++ v) ≡ elems u ++ elems v
-elems_append [] v = refl
-elems_append (x ∷ u) v = ap (λ l. Elem x ∷ l) (elems_append u v)
-
-elems_split : (n : ℕ) (numbers : List ℕ) → elems (take n numbers) ++ elems (drop n numbers) ≡ elems numbers
-elems_split n numbers = sym (elems_append (take n numbers) (drop n numbers)) ∙ ap elems (take-append-drop n numbers)
 
 -- ---- what it holds
 
@@ -122,13 +85,6 @@ emit_stage e s c d count r h t i j f m g p b =
     (subst (λ y. Goes (Emit d) (part_of (part_at e.stand) (grade_of e.sort) gives takes room n (scan_rest w false s y)) (part_of part.Gave (grade_of e.sort) gives takes room k (scan_rest w false (carried e) (elems (drop count c.1))))) (elems_split count c.1 ∙ sym (cut_items e.sort c h i))
     (emit_law w (part_at e.stand) (grade_of e.sort) gives takes room n k d (elems (take count c.1)) (elems (drop count c.1)) s (carried e) (cut_pieces e.sort h)
     (subst (λ x. IsOf x d) (sym g) (cut_is e.sort d h j f m)) (subst (λ a. IsRead w s (elems (take count c.1)) a (carried e)) (ap (map Out) (sym (cut_items e.sort d h j))) p))))
-
--- the size of a chunk of a cut stream
-size_of : (k : Sort) (c : Chunk) (len : ℕ) → IsTrue (is_cut k) → c.0 ≡ k → len ≡ length c.1 → HasSize c.0 len → (0 < length c.1) × (length c.1 ≤ chunk_limit)
-size_of k c len h i e z =
-    let f = z.some (subst (λ s. IsTrue (is_cut s)) (sym i) h) in
-    let m = z.cut (subst (λ s. IsTrue (is_cut s)) (sym i) h) in
-    (omega (arith, f, e), omega (arith, m, e))
 
 -- the whole chunk passes on
 pub pass_whole : (e : ElemStage) (s : Carried) (c : Chunk) (count len : ℕ) → IsTrue (is_cut e.sort) → e.told ≡ false → e.keep ≡ None → c.0 ≡ e.sort → len ≡ length c.1 → HasSize c.0 len → count ≡ len
@@ -178,12 +134,6 @@ done_stage e s c count v r h t k i j p b = record {
       (subst (λ l. Finishes (grade_of e.sort) (value_meaning v) l (scan_rest (word_scan e.sort) false s (elems (take count c.1) ++ elems (drop count c.1)))) (sym (cut_rest e.sort (drop count c.1) r h b))
       (done_finishes (word_scan e.sort) (grade_of e.sort) (value_meaning v) (elems (take count c.1)) (elems (drop count c.1)) s p.1));
 }
-
-pub sort_of_kind : (k : Sort) → sort_at (kind_of k) ≡ k
-sort_of_kind Sort.Bytes = refl
-sort_of_kind Sort.Chars = refl
-sort_of_kind Sort.Block = refl
-sort_of_kind Sort.Text = refl
 
 pub plain_state : (s : WordState) → ((c : Class) → s ≡ state.Filter c → ⊥) → ((by : ByteMap) → s ≡ state.Map by → ⊥) → ((n : ℕ) → s ≡ state.Collect n → ⊥) → (s ≡ state.SinkNull → ⊥) → IsPlain s
 plain_state (state.Filter c) e f g h = absurd (e c refl)

@@ -9,13 +9,11 @@ use Rattle.cd_meaning.specs.Stream.{Sort, Item, Elem, Value, present, Act, Out}
 use Rattle.cd_meaning.specs.RunShapes.{as_count}
 use Rattle.cd_meaning.specs.Classes.{is_in_class, element_mapped}
 use Rattle.cd_meaning.specs.Sorts.{value_of}
+use Rattle.cd_step.specs.CutChunks.{elems}
 use Rattle.cd_step.specs.Reading.{IsRead, IsSilent, IsDone}
 use Rattle.cd_step.proofs.Reading.{read_silent, done_behind, done_back, done_ready}
 use Rattle.cd_elemwise.specs.declared.state.WordState.TheVariants as state
 use Rattle.cd_elemwise.specs.Carried.{Doing, Answered, or_back, or_answer, single_of, list_value, word_scan}
-
-abbrev pub elems : List ℕ → List Item
-elems numbers = map Elem numbers
 
 abbrev pub outs : List ℕ → List Act
 outs numbers = map Out (map Elem numbers)

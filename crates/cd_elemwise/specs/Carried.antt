@@ -1,9 +1,8 @@
 -- The element words as scans, and what the typing asks of them.
 use Rattle.std.specs.Prelude.{◌≡◌, ℕ, zero, suc, ◌+◌, ◌<◌, ◌≤◌, Bool, true, false, not, List, [], ◌∷◌, ◌++◌, length, replicate, Option, Some, None, IsTrue}
 use Rattle.cd_elem.specs.Chunks.{is_cut}
-use Rattle.cd_elem.specs.Limits.{chunk_limit, piece_limit, repeat_limit, collect_limit}
+use Rattle.cd_elem.specs.Limits.{repeat_limit, collect_limit}
 use Rattle.cd_elem.specs.declared.kind.Kind.{Kind}
-use Rattle.cd_elem.specs.declared.kind.Kind.TheVariants.{Bytes, Chars, Blocks, Texts}
 use Rattle.cd_elem.specs.declared.word.ByteMap.{ByteMap}
 use Rattle.cd_elem.specs.declared.word.ByteMap.TheVariants.{Xor, Add, Rot13}
 use Rattle.cd_elem.specs.declared.word.Class.{Class}
@@ -16,6 +15,7 @@ use Rattle.cd_meaning.specs.Sorts.{value_of}
 use Rattle.cd_meaning.specs.ElementWords.{kept}
 use Rattle.cd_meaning.specs.Scan.{Scan, Reply, Go, Back}
 use Rattle.cd_step.specs.Parts.{Chunk}
+pub use Rattle.cd_step.specs.CutChunks.{kind_of, IsChunkOf}
 use Rattle.cd_elemwise.specs.declared.chunks.ElementSlice.{ElementSlice}
 use Rattle.cd_elemwise.specs.declared.chunks.ElementSlice.TheVariants as elements
 use Rattle.cd_elemwise.specs.declared.state.Single.{Single}
@@ -48,11 +48,6 @@ single_value single = present (single_plain single)
 abbrev pub last_value : Option Single → Value
 last_value None = absent
 last_value (Some single) = single_value single
-
--- a chunk of these, None where there are none
-abbrev pub IsChunkOf : Sort → List ℕ → Option Chunk → Type 0
-IsChunkOf k numbers None = numbers ≡ []
-IsChunkOf k numbers (Some c) = (c ≡ (k, numbers)) × (0 < length numbers) × (length numbers ≤ chunk_limit)
 
 -- ---- lists
 
@@ -111,15 +106,6 @@ abbrev pub bound_of : ElemWord → ℕ
 bound_of ElemWord.LastE = 1
 bound_of (ElemWord.CollectE n) = n
 bound_of _ = 0
-
--- ---- kinds
-
--- The kind of a stream by the sort of its chunks. Of pieces it is the widest, since a word that takes pieces takes each.
-abbrev pub kind_of : Sort → Kind
-kind_of Sort.Bytes = Bytes
-kind_of Sort.Chars = Chars
-kind_of Sort.Block = Blocks piece_limit
-kind_of Sort.Text = Texts piece_limit
 
 -- ---- states
 

@@ -153,16 +153,3 @@ pub fn last_of(chunk: &Chunk) -> Single
 {
     single_at(chunk, chunk.len() - 1)
 }
-
-/// What stands behind the first `count` elements, None where there is nothing.
-pub fn behind(mut chunk: Chunk, count: usize) -> Option<Chunk>
-    requires cut { IsTrue (is_cut chunk.0) }
-    requires within { count ≤ length chunk.1 }
-    ensures { IsChunkOf chunk.0 (drop count chunk.1) result }
-{
-    if count == chunk.len() {
-        return None;
-    }
-    chunk.skip(count);
-    Some(chunk)
-}

@@ -12,13 +12,13 @@ ghost use Rattle.cd_elemwise.specs.Plans.{IsPlan};
 ghost use Rattle.cd_elemwise.specs.Stages.{asks_of, carried, seen_stage, stage_fits, stage_most, with_chunk, held_of, seen_from, IsFinal, IsPlanned, IsSameStage, KeepsBounds, StateFits, Went};
 ghost use Rattle.cd_meaning.specs.Values.{value_meaning};
 
-use crate::chunks::{behind, mapped_of, passing_of};
+use crate::chunks::{mapped_of, passing_of};
 use crate::class_table::ClassTable;
 use crate::collect::{collect, collected};
 use crate::plan::{ChunkPlan, planned};
 use crate::state::{Gathered, WordState, present_of};
 use cd_elem::{Chunk, Class, ElemWord, Items, NoMemory, Sort, Value};
-use cd_step::{Input, Move, Stage, Stand, weight_of};
+use cd_step::{Input, Move, Stage, Stand, behind, weight_of};
 use std::alloc::Global;
 
 /// An element word between two steps.

@@ -14,6 +14,12 @@ use Rattle.cd_pieces.specs.LiteralStages.{seen_literal}
 use Rattle.cd_pieces.specs.Stages as pieces
 use Rattle.cd_pieces.proofs.LiteralLaws.{literal_held}
 use Rattle.cd_pieces.proofs.StageLaws.{well_held}
+use Rattle.cd_split.specs.declared.stage.SplitStage.{SplitStage}
+use Rattle.cd_split.specs.Splitting as splits
+use Rattle.cd_split.specs.declared.stage.SplitStage.TheVariants.{Cut, Join}
+use Rattle.cd_split.specs.Cutting.{CutterStands}
+use Rattle.cd_split.specs.Joining.{JoinerStands}
+use Rattle.cd_split.proofs.StageLaws.{well_held as split_held}
 use Rattle.cd_fuse.specs.declared.fuse.Fuse.{Fuse}
 use Rattle.cd_fuse.specs.declared.follow.Follow.{Follow}
 use Rattle.cd_fuse.specs.Fuses.{whole_fuse, fuse_is_at, IsFuseIn}
@@ -46,6 +52,14 @@ pub piece_unstarted : (e : PieceStage) → pieces.stage_fits e → (pieces.seen_
 piece_unstarted e f h =
     let s = subst (λ x. pieces.StandFits x e.told e.due e.state) (stand_fresh e.stand h) f.0 in
     record { unbegun = record { is_at = h; floor = rw s.0 refl; unread = rw s.0 refl }; no_ticket = λ s d. refl; held = well_held e f.1 }
+
+pub split_unstarted : (e : SplitStage) → splits.stage_fits e → (splits.seen_stage e).at ≡ Fresh → IsUnstarted (splits.seen_stage e)
+split_unstarted (Cut e) f h =
+    let s = subst (λ x. CutterStands x e.told e.keep) (stand_fresh e.stand h) f.0 in
+    record { unbegun = record { is_at = h; floor = rw s.0 refl; unread = rw (s.0, s.1) refl }; no_ticket = λ s d. refl; held = split_held (Cut e) f }
+split_unstarted (Join e) f h =
+    let s = subst (λ x. JoinerStands x e.told e.keep) (stand_fresh e.stand h) f.0 in
+    record { unbegun = record { is_at = h; floor = rw s.0 refl; unread = rw s.0 refl }; no_ticket = λ s d. refl; held = split_held (Join e) f }
 
 pub literal_unstarted : (e : LiteralStage) → (seen_literal e).at ≡ Fresh → IsUnstarted (seen_literal e)
 literal_unstarted e h = record { unbegun = record { is_at = h; floor = refl; unread = refl }; no_ticket = λ s d. refl; held = literal_held e }

@@ -2,6 +2,7 @@
 ghost use Rattle.std.specs.Prelude.{◌≡◌, ◌+◌, ◌==◌, ◌||◌, ℕ, IfOk, List, None, Some, false, true};
 ghost use Rattle.cd_elem.specs.Limits.{chunk_limit};
 ghost use Rattle.cd_elem.specs.declared.kind.Kind.TheVariants as kind;
+ghost use Rattle.cd_elem.specs.declared.word.ElemWord.TheVariants as elements;
 ghost use Rattle.cd_elem.specs.declared.word.SinkWord.TheVariants as sinks;
 ghost use Rattle.cd_elem.specs.declared.word.SourceWord.TheVariants as sources;
 ghost use Rattle.cd_elem.specs.declared.word.Word.TheVariants as words;
@@ -18,7 +19,8 @@ ghost use Rattle.cd_meaning.specs.Stream.{End, Flow, Item};
 ghost use Rattle.cd_meaning.specs.WordMeanings.{word_meaning};
 ghost use Rattle.cd_pieces.specs.Carried as pieces;
 ghost use Rattle.cd_pieces.specs.Literals as literals;
-ghost use Rattle.cd_step.specs.Parts.{both_sites, chunk_at, joined, of_pieces, shared, sort_at};
+ghost use Rattle.cd_split.specs.Splitting as splits;
+ghost use Rattle.cd_step.specs.Parts.{both_sites, chunk_at, joined, of_pieces, pieces_at, shared, sort_at};
 ghost use Rattle.cd_node.specs.Makes.{IsPairOf, IsUnstarted};
 ghost use Rattle.cd_node.specs.Nodes.{HasNoTicket};
 ghost use Rattle.cd_node.specs.Trees.{IsWell, StandsAt, bound_of, chunks_of, seen};
@@ -29,10 +31,11 @@ use crate::node::Node;
 use crate::sink::Sink;
 use crate::source::Source;
 use crate::word::WordStage;
-use cd_elem::{ElemWord, Kind, NoMemory, PieceWord, Site, Sort, SourceWord};
+use cd_elem::{ElemWord, Kind, NoMemory, PieceWord, Site, Sort, SourceWord, SplitWord};
 use cd_elemwise::elem_stage;
 use cd_fuse::{Follow, Fuse};
-use cd_pieces::{literal_stage, piece_stage};
+use cd_pieces::{literal_stage, piece_stage, sink_null};
+use cd_split::split_stage;
 use std::alloc::Global;
 
 impl Node {
@@ -74,6 +77,45 @@ impl Node {
     {
         let stage = piece_stage(alloc, word, kind)?;
         Ok(Node::Word(WordStage::Piece(stage)))
+    }
+
+    /// The element word `sinkNull`, where pieces of this kind come to it.
+    pub fn sink_null(kind: Kind) -> Node
+        requires { pieces_at kind ≡ true }
+        ensures well { IsWell result }
+        ensures unstarted { IsUnstarted (seen result) }
+        ensures gives { (seen result).gives ≡ None }
+        ensures takes { (seen result).takes ≡ Some kind }
+        ensures pieces { (seen result).grade.pieces ≡ of_pieces (seen result).takes }
+        ensures exact { (seen result).grade.exact ≡ true }
+        ensures sites { (t : ℕ) → (seen result).sites t ≡ false }
+        ensures places { (place : ℕ → Place) → StandsAt result place }
+        ensures bound { bound_of result ≡ 0 }
+        ensures chunks { chunks_of result ≡ chunk_at kind }
+        ensures means { (z : Seen) (site : ℕ) (told : Seen) (xs : List Item) (end : End)
+            → (seen result).run z xs end ≡ (word_meaning (words.Elem elements.SinkNull)).run (Some (sort_at kind)) site told xs end }
+    {
+        Node::Word(WordStage::Piece(sink_null(kind)))
+    }
+
+    /// A splitter, where elements or pieces of this kind come to it.
+    pub fn split(alloc: Global, word: &SplitWord, kind: Kind) -> Result<Node, NoMemory>
+        requires { splits.HasType word.now kind }
+        ensures well { IfOk result IsWell }
+        ensures unstarted { IfOk result (λ n. IsUnstarted (seen n)) }
+        ensures gives { IfOk result (λ n. (seen n).gives ≡ Some (splits.gives_of word.now kind)) }
+        ensures takes { IfOk result (λ n. (seen n).takes ≡ Some kind) }
+        ensures pieces { IfOk result (λ n. (seen n).grade.pieces ≡ of_pieces (seen n).takes) }
+        ensures exact { IfOk result (λ n. (seen n).grade.exact ≡ true) }
+        ensures sites { IfOk result (λ n. (t : ℕ) → (seen n).sites t ≡ false) }
+        ensures places { IfOk result (λ n. (place : ℕ → Place) → StandsAt n place) }
+        ensures bound { IfOk result (λ n. bound_of n ≡ splits.bound_of word.now) }
+        ensures chunks { IfOk result (λ n. chunks_of n ≡ chunk_at kind) }
+        ensures means { IfOk result (λ n. (z : Seen) (site : ℕ) (told : Seen) (xs : List Item) (end : End)
+            → (seen n).run z xs end ≡ (word_meaning (words.Split word.now)).run (Some (sort_at kind)) site told xs end) }
+    {
+        let stage = split_stage(alloc, word, kind)?;
+        Ok(Node::Word(WordStage::Split(stage)))
     }
 
     /// A word that gives what stands in the script.

@@ -2,6 +2,7 @@
 use cd_elem::{Chunk, NoMemory};
 use cd_elemwise::ElemStage;
 use cd_pieces::{LiteralStage, PieceStage};
+use cd_split::SplitStage;
 use cd_step::{Input, Move, Stage};
 use std::alloc::Global;
 
@@ -11,6 +12,7 @@ pub enum WordStage {
     Elem(ElemStage),
     Piece(PieceStage),
     Literal(LiteralStage),
+    Split(SplitStage),
 }
 
 impl Stage for WordStage {
@@ -24,6 +26,8 @@ impl Stage for WordStage {
 
     ghost one = { word_one };
 
+    // It stands in the loop that steps a tree, so that a word is stepped by one call.
+    #[inline(always)]
     fn step(&mut self, alloc: Global, input: Input) -> Result<Move, NoMemory> {
         match self {
             WordStage::Elem(stage) => {
@@ -38,6 +42,10 @@ impl Stage for WordStage {
                 let made = stage.step(alloc, input)?;
                 Ok(made)
             }
+            WordStage::Split(stage) => {
+                let made = stage.step(alloc, input)?;
+                Ok(made)
+            }
         }
     }
 
@@ -46,6 +54,7 @@ impl Stage for WordStage {
             WordStage::Elem(stage) => stage.held(),
             WordStage::Piece(stage) => stage.held(),
             WordStage::Literal(stage) => stage.held(),
+            WordStage::Split(stage) => stage.held(),
         }
     }
 
@@ -54,6 +63,7 @@ impl Stage for WordStage {
             WordStage::Elem(stage) => stage.bound(),
             WordStage::Piece(stage) => stage.bound(),
             WordStage::Literal(stage) => stage.bound(),
+            WordStage::Split(stage) => stage.bound(),
         }
     }
 
@@ -62,6 +72,7 @@ impl Stage for WordStage {
             WordStage::Elem(stage) => stage.retire(),
             WordStage::Piece(stage) => stage.retire(),
             WordStage::Literal(stage) => stage.retire(),
+            WordStage::Split(stage) => stage.retire(),
         }
     }
 }

@@ -67,6 +67,9 @@ length_reply k c n m h = rw h (record { reply = refl; fits = tt; same = (refl, �
 pub null_reply : (k : Kind) (c : Chunk) → Replies k (state.Sift sift.Null) c (GivesBack (result.Bool false) c) (state.Sift sift.Null)
 null_reply k c = record { reply = ap Back (sym (bool_is false)); fits = refl; same = (refl, λ h. h, le_self _); more = omega arith }
 
+pub sink_reply : (k : Kind) (c : Chunk) → Replies k (state.Sift sift.SinkNull) c Skip (state.Sift sift.SinkNull)
+sink_reply k c = record { reply = refl; fits = tt; same = (refl, λ h. h, le_self _); more = omega arith }
+
 -- ---- words that answer with a piece
 
 piece_sorted : (k : Kind) (c : Chunk) (v : Result) → IsChunk k c → value_meaning v ≡ present (piece_value c) → value_meaning v ≡ present (value_of (sort_at k) (piece_of c))

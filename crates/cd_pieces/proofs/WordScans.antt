@@ -4,6 +4,7 @@ use Rattle.cd_elem.specs.Chunks.{is_cut}
 use Rattle.cd_elem.specs.declared.kind.Kind.{Kind}
 use Rattle.cd_elem.specs.declared.kind.Kind.TheVariants.{Bytes, Chars, Blocks, Texts}
 use Rattle.cd_elem.specs.declared.value.Value.{Value as Result}
+use Rattle.cd_elem.specs.declared.word.ElemWord.{ElemWord}
 use Rattle.cd_elem.specs.declared.word.PieceWord.{PieceWord}
 use Rattle.cd_elem.specs.declared.word.PieceMap.{PieceMap}
 use Rattle.cd_elem.specs.declared.word.PieceTest.{PieceTest}
@@ -16,10 +17,10 @@ use Rattle.cd_meaning.specs.Sorts.{value_of, list_of, each_value, literal_at, pi
 use Rattle.cd_meaning.specs.ElementWords.{kept, head}
 use Rattle.cd_meaning.specs.Scan.{Go, scan}
 use Rattle.cd_meaning.specs.Values.{value_meaning, values_of, bytes_are, text_is}
-use Rattle.cd_meaning.specs.WordMeanings.{piece_word}
+use Rattle.cd_meaning.specs.WordMeanings.{element_word, piece_word}
 use Rattle.cd_meaning.proofs.Runs.Scans.{carried as carried_by, scan_by, scan_ready}
 use Rattle.cd_meaning.proofs.Runs.Shapes.{past_closed, each_scan, first_scan, while_scan, while_reply}
-use Rattle.cd_meaning.proofs.Runs.Elements.{passed_is_scan, filtered_is_scan, mapped_is_scan, repeated_is_scan, taken_while_is_scan, dropped_while_is_scan, taken_is_scan, dropped_is_scan, collected_is_scan, left_scan, latest_is_scan, latest_scan, latest_value, counted_is_scan, counted_scan, peek_is_scan, peek_scan, none_is_scan, none_scan}
+use Rattle.cd_meaning.proofs.Runs.Elements.{passed_is_scan, filtered_is_scan, mapped_is_scan, repeated_is_scan, ignored_is_scan, taken_while_is_scan, dropped_while_is_scan, taken_is_scan, dropped_is_scan, collected_is_scan, left_scan, latest_is_scan, latest_scan, latest_value, counted_is_scan, counted_scan, peek_is_scan, peek_scan, none_is_scan, none_scan}
 use Rattle.cd_meaning.proofs.Runs.Pieces.{interspersed_is_scan, interspersed_scan, interspersed_step}
 use Rattle.cd_meaning.proofs.Moves.Own.{scan_fresh}
 use Rattle.cd_step.specs.Parts.{sort_at, bound_at}
@@ -212,6 +213,11 @@ word_is_scan (PieceWord.Collect n) k h site seen xs e = collected_is_scan (list_
 pub first_run : (w : PieceWord) (k : Kind) → HasType w k → (site : ℕ) (seen : Seen) (xs : List Item) (e : End)
     → (scan_rest (word_scan (sort_at k)) false (Doing (first_state w (sort_at k))) []).run xs e ≡ (piece_word w).run (Some (sort_at k)) site seen xs e
 first_run w k h site seen xs e = scan_fresh (word_scan (sort_at k)) (Doing (first_state w (sort_at k))) xs e ∙ sym (word_is_scan w (sort_at k) (piece_sort k h.0) site seen xs e)
+
+-- that of the element word `sinkNull` on pieces
+pub sink_run : (k : Sort) (site : ℕ) (seen : Seen) (xs : List Item) (e : End)
+    → (scan_rest (word_scan k) false (Doing (state.Sift sift.SinkNull)) []).run xs e ≡ (element_word ElemWord.SinkNull).run (Some k) site seen xs e
+sink_run k site seen xs e = scan_fresh (word_scan k) (Doing (state.Sift sift.SinkNull)) xs e ∙ sym (ignored_is_scan xs e ∙ each_by k (state.Sift sift.SinkNull) drops (λ x. refl) refl refl xs e)
 
 -- ---- at first
 

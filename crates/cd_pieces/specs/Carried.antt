@@ -169,6 +169,7 @@ sift_step (sift.Drop (suc n)) x = Go [] (sifting (sift.Drop n))
 sift_step (sift.DropWhile t) x = or_back (passes t (elements x)) [] (sifting (sift.DropWhile t))
 sift_step (sift.Length n) x = Go [] (sifting (sift.Length (as_count (n + 1))))
 sift_step sift.Null x = Back (Value.Bool false)
+sift_step sift.SinkNull x = Go [] (sifting sift.SinkNull)
 
 abbrev pub answer_step : Sort → Answering → Item → Reply Carried
 answer_step k answer.Head x = Go [] (Answered (present (value_of k x)))

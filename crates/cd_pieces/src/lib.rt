@@ -17,4 +17,4 @@ mod stage;
 mod state;
 
 pub use literals::{LiteralStage, literal_stage};
-pub use stage::{PieceStage, piece_stage};
+pub use stage::{PieceStage, piece_stage, sink_null};

@@ -130,5 +130,9 @@ pub fn sift(word: &mut Sifting, piece: Chunk) -> PieceReply
             PieceReply::Skip
         }
         Sifting::Null => PieceReply::Back(Value::Bool(false), piece),
+        Sifting::SinkNull => {
+            drop(piece);
+            PieceReply::Skip
+        }
     }
 }

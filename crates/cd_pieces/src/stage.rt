@@ -1,10 +1,11 @@
 // A suspended piece word.
 ghost use Rattle.std.specs.Prelude.{◌≡◌, ◌≤◌, ◌<◌, ◌+◌, ◌^◌, ℕ, List, IfOk, OnErr, None, Some, false, true};
+ghost use Rattle.cd_elem.specs.declared.word.ElemWord.TheVariants as elem;
 ghost use Rattle.cd_elem.specs.declared.word.Word.TheVariants as words;
 ghost use Rattle.cd_meaning.specs.Stream.{End, Item};
 ghost use Rattle.cd_meaning.specs.RunShapes.{Seen};
 ghost use Rattle.cd_meaning.specs.WordMeanings.{word_meaning};
-ghost use Rattle.cd_step.specs.Parts.{Chunk, Fresh, Goes, IsChunk, sort_at, weight};
+ghost use Rattle.cd_step.specs.Parts.{Chunk, Fresh, Goes, IsChunk, pieces_at, sort_at, weight};
 ghost use Rattle.cd_step.specs.declared.protocol.Stand.TheVariants as stand;
 ghost use Rattle.cd_pieces.specs.Carried.{HasType, bound_of, gives_of, word_gives};
 ghost use Rattle.cd_pieces.specs.Stages.{DueFits, IsAnswered, IsFinal, IsSameStage, IsWell, ReplyFits, Went, asks_of, held_of, seen_from, seen_stage, stage_fits, stage_most, with_due};
@@ -14,7 +15,7 @@ use crate::due::Due;
 use crate::first::{most_of, state_of};
 use crate::read::{asks, final_value, read};
 use crate::reply::PieceReply;
-use crate::state::{Keeping, WordState};
+use crate::state::{Keeping, Sifting, WordState};
 use cd_elem::{Chunk, Kind, NoMemory, PieceWord};
 use cd_step::{Input, Move, Stage, Stand, weight_of};
 use std::alloc::Global;
@@ -254,4 +255,28 @@ pub fn piece_stage(alloc: Global, word: &PieceWord, kind: Kind) -> Result<PieceS
         state,
         due: None,
     })
+}
+
+/// The stage of the element word `sinkNull` where pieces of this kind come to it. It reads them all, gives nothing, and
+/// ends with unit at the end of its input. `elem_stage` of cd_elemwise makes this word for pieces of every length that may
+/// flow, while the parts of a sequence over pieces have to take one and the same kind.
+pub fn sink_null(kind: Kind) -> PieceStage
+    requires { pieces_at kind ≡ true }
+    ensures fit { stage_fits result }
+    ensures fresh { (seen_stage result).at ≡ Fresh }
+    ensures none_held { (seen_stage result).held ≡ 0 }
+    ensures takes { (seen_stage result).takes ≡ Some kind }
+    ensures gives { (seen_stage result).gives ≡ None }
+    ensures bound { stage_most result ≡ 0 }
+    ensures means { (z : Seen) (site : ℕ) (seen : Seen) (xs : List Item) (end : End)
+        → (seen_stage result).run z xs end ≡ (word_meaning (words.Elem elem.SinkNull)).run (Some (sort_at kind)) site seen xs end }
+{
+    PieceStage {
+        stand: Stand::Fresh,
+        told: false,
+        takes: kind,
+        most: 0,
+        state: WordState::Sift(Sifting::SinkNull),
+        due: None,
+    }
 }

@@ -38,6 +38,7 @@ pub enum Sifting {
     DropWhile(Test),
     Length(u64),
     Null,
+    SinkNull,
 }
 
 /// A word that answers with the first piece.

@@ -1,3 +1,5 @@
+pub mod ActsLeft
+pub mod CutChunks
 pub mod Moving
 pub mod Outs
 pub mod PieceChunks

@@ -10,7 +10,7 @@ use Rattle.cd_meaning.specs.Laws.{Rising}
 use Rattle.cd_meaning.specs.Rest.{Rest, Grade, Moves, Finishes, fresh, reads_first}
 use Rattle.cd_meaning.specs.Scan.{Scan, Go, Back, Fail, scan}
 use Rattle.cd_meaning.specs.Values.{value_meaning}
-use Rattle.cd_meaning.proofs.Runs.Scans.{scan_rising}
+use Rattle.cd_meaning.proofs.Runs.Scans.{acts_rising, scan_rising}
 use Rattle.cd_meaning.proofs.Moves.Plain.{finishes_after}
 use Rattle.cd_meaning.proofs.Moves.Scans.{moves_after, moves_join, pending_more, scan_reads, scan_finishes, scan_back, scan_fails, scan_needs, scan_ends}
 use Rattle.cd_step.specs.declared.protocol.Input.{Input}
@@ -185,8 +185,8 @@ module _ {S : Type 0} (w : Scan S) where
     λ o. (sym (unread_is b st (rest_items r) (f o)), k o),
   )
 
-  rest_rising : (b : Bool) (st : S) (u ys : List Item) (e : End) → w.close st ≡ [] → Rising (scan_rest w b st u).floor ((scan_rest w b st u).run ys e)
-  rest_rising false st u ys e c = rising_first (length u) 0 (scan w 0 st (u ++ ys) e) (scan_rising w 0 st (u ++ ys) e) where
+  pub rest_rising : (b : Bool) (st : S) (u ys : List Item) (e : End) → Rising (scan_rest w b st u).floor ((scan_rest w b st u).run ys e)
+  rest_rising false st u ys e = rising_first (length u) 0 (scan w 0 st (u ++ ys) e) (scan_rising w 0 st (u ++ ys) e) where
     rising_on : (n m : ℕ) (r : Run) → Rising m r → Rising (max 0 (m - n)) (restamp (reads_first 0 n) r)
     rising_on n m (Then s a r) h = (let h0 = h.0 in omega (arith, h0), rising_on n s.need r h.1)
     rising_on n m (Ends s e) h = omega (arith, h)
@@ -194,19 +194,24 @@ module _ {S : Type 0} (w : Scan S) where
     rising_first : (n m : ℕ) (r : Run) → Rising m r → Rising 0 (restamp (reads_first 0 n) r)
     rising_first n m (Then s a r) h = (omega arith, rising_on n s.need r h.1)
     rising_first n m (Ends s e) h = omega arith
-  rest_rising true st u ys e c = rw c (omega arith)
+  rest_rising true st u ys e = acts_rising 1 (stamp 1 0) (w.close st) (Ends (stamp 1 0) (w.ending st)) (omega arith) (omega arith)
 
-  rest_counts : (b : Bool) (st : S) (u : List Item) (n : ℕ) → weigh u ≤ n → weigh (scan_rest w b st u).unread ≤ n
+  pub rest_counts : (b : Bool) (st : S) (u : List Item) (n : ℕ) → weigh u ≤ n → weigh (scan_rest w b st u).unread ≤ n
   rest_counts false st u n h = subst (λ l. weigh l ≤ n) refl h
   rest_counts true st u n h = omega arith
 
-  -- its facts
-  pub scan_sound : (at : At) (g : Grade) (gives takes : Option Kind) (room n : ℕ) (b : Bool) (st : S) (u : List Item) → w.close st ≡ [] → g.pieces ≡ of_pieces takes → weigh u ≤ n
+  -- its facts, whatever it does at its end
+  pub rest_sound : (at : At) (g : Grade) (gives takes : Option Kind) (room n : ℕ) (b : Bool) (st : S) (u : List Item) → g.pieces ≡ of_pieces takes → weigh u ≤ n
       → IsSound (part_of at g gives takes room n (scan_rest w b st u))
-  scan_sound at g gives takes room n b st u c e h = record {
+  rest_sound at g gives takes room n b st u e h = record {
     local = λ s k v z. refl;
-    rising = λ z ys e. rest_rising b st u ys e c;
+    rising = λ z ys e. rest_rising b st u ys e;
     counts = rest_counts b st u n h;
     graded = e;
     own = λ s d k. absurd (let f : false ≡ true = k in cc);
   }
+
+  -- and where it does nothing more there
+  pub scan_sound : (at : At) (g : Grade) (gives takes : Option Kind) (room n : ℕ) (b : Bool) (st : S) (u : List Item) → w.close st ≡ [] → g.pieces ≡ of_pieces takes → weigh u ≤ n
+      → IsSound (part_of at g gives takes room n (scan_rest w b st u))
+  scan_sound at g gives takes room n b st u c e h = rest_sound at g gives takes room n b st u e h

@@ -1,3 +1,4 @@
+pub mod CutChunks
 pub mod Flows
 pub mod Parts
 pub mod Reading

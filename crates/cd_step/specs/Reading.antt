@@ -12,6 +12,10 @@ abbrev pub scan_rest : {S : Type 0} → Scan S → Bool → S → List Item → 
 scan_rest w false st u = pending u 0 (fresh (scan w 0 st))
 scan_rest w true st u = record { unread = []; floor = 1; run = λ ys e. acts_at (stamp 1 0) (w.close st) (Ends (stamp 1 0) (w.ending st)) }
 
+-- what is left of a part that gives these acts before all else
+abbrev pub acting : List Act → Rest → Rest
+acting acts p = record { unread = p.unread; floor = p.floor; run = λ ys e. acts_at (stamp p.floor 0) acts (p.run ys e) }
+
 -- a part without sites of which this is left, and which holds n
 abbrev pub part_of : At → Grade → Option Kind → Option Kind → ℕ → ℕ → Rest → Part
 part_of at g gives takes room n p = record {

@@ -3,10 +3,12 @@
 
 mod back;
 mod control;
+mod cut;
 mod protocol;
 mod stage;
 
 pub use back::{Back, weight_of};
 pub use control::{Control, Flow, Found, Made, Side, Turn};
+pub use cut::behind;
 pub use protocol::{Input, Move, Stand};
 pub use stage::Stage;

@@ -1,8 +1,7 @@
 use Rattle.std.proofs.Common.{◌<◌, ◌+◌, IfOk, IsTrue, length, map, ap, sym, ◌∙◌, subst, arith}
 use Rattle.cd_build.proofs.Halving.{IsCutIn, cut_at, first_smaller, second_smaller, built_first, built_second, chain_first_fits, chain_first_room, chain_second_fits, chain_second_room, halves_beside, chain_of_halves, sequence_first_fits, sequence_first_room, sequence_second_fits, sequence_second_room, halves_in_turn, sequence_of_halves}
 use Rattle.cd_types.specs.Forms.{mark_part}
-use Rattle.cd_build.proofs.Marks.{mark_built, mark_so, not_inside}
-use Rattle.cd_build.proofs.Outputs.{is_grade}
+use Rattle.cd_build.proofs.Marks.{mark_built, mark_so}
 use Rattle.cd_build.proofs.Nodes.{typed_word, chain_is_built, chain_so, sequence_is_built, sequence_so}
 use Rattle.cd_build.specs.Builds.{chain_of, sequence_of, sequence_meaning}
 use Rattle.cd_build.specs.BuiltNodes.{IsBuiltPart}
@@ -32,7 +31,7 @@ build_chain-build_chain-requires t c =
         cut.first,
         (
           built_first ps xs ys cut c.requires.built,
-          (chain_first_fits f c.args.site 4294967296 ps xs ys cut c.requires.built c.requires.cut c.requires.typed c.requires.room, (c.requires.cut, chain_first_room f c.args.site 4294967296 ps xs ys cut c.requires.built c.requires.cut c.requires.typed c.requires.room)),
+          (chain_first_fits f c.args.site 4294967296 ps xs ys cut c.requires.built c.requires.typed c.requires.room, chain_first_room f c.args.site 4294967296 ps xs ys cut c.requires.built c.requires.typed c.requires.room),
         ),
       ),
     )
@@ -55,7 +54,7 @@ build_chain-build_chain-requires-2 t c =
         cut.second,
         (
           built_second ps xs ys cut c.requires.built,
-          (chain_second_fits f c.args.site 4294967296 ps xs ys cut c.requires.built c.requires.cut c.requires.typed c.requires.room a u, (u.no_pieces, chain_second_room f c.args.site 4294967296 ps xs ys cut c.requires.built c.requires.cut c.requires.typed c.requires.room a u)),
+          (chain_second_fits f c.args.site 4294967296 ps xs ys cut c.requires.built c.requires.typed c.requires.room a u, chain_second_room f c.args.site 4294967296 ps xs ys cut c.requires.built c.requires.typed c.requires.room a u),
         ),
       ),
     )
@@ -71,7 +70,7 @@ build_chain-fused-requires-clause-beside t c =
     let more = c.if-members-eq1.false in
     let cut : IsCutIn ps xs ys = cut_at _ ps xs ys c.split_at.ensures.front c.split_at.ensures.back (omega arith) (omega arith) in
     let f = c.args.takes in
-    halves_beside f c.args.site 4294967296 ps xs ys cut c.requires.built c.requires.cut c.requires.typed c.requires.room c.in_ok-upper.field-0 c.in_ok-upper.ensures c.in-Ok.field-0 c.in-Ok.ensures
+    halves_beside f c.args.site 4294967296 ps xs ys cut c.requires.built c.requires.typed c.requires.room c.in_ok-upper.field-0 c.in_ok-upper.ensures c.in-Ok.field-0 c.in-Ok.ensures
 
 pub build_chain-returns-in_ok-node-in-Ok : goal.build_chain-returns-in_ok-node-in-Ok
 build_chain-returns-in_ok-node-in-Ok t c =
@@ -85,7 +84,7 @@ build_chain-returns-in_ok-node-in-Ok t c =
     let cut : IsCutIn ps xs ys = cut_at _ ps xs ys c.split_at.ensures.front c.split_at.ensures.back (omega arith) (omega arith) in
     let f = c.args.takes in
     let e = c.in_ok-node-in-Ok.ensures in
-    chain_of_halves f c.args.site 4294967296 ps xs ys cut c.requires.built c.requires.cut c.requires.typed c.requires.room c.in_ok-upper.field-0 c.in_ok-upper.ensures c.in-Ok.field-0 c.in-Ok.ensures c.in_ok-node-in-Ok.node
+    chain_of_halves f c.args.site 4294967296 ps xs ys cut c.requires.built c.requires.typed c.requires.room c.in_ok-upper.field-0 c.in_ok-upper.ensures c.in-Ok.field-0 c.in-Ok.ensures c.in_ok-node-in-Ok.node
     (record { well = e.well; unstarted = e.unstarted; bound = e.bound; places = e.places })
     (record { gives = e.gives; takes = e.takes; pieces = e.pieces; exact = e.exact; sites = e.sites; means = e.means })
 
@@ -108,7 +107,7 @@ build_sequence-build_sequence-requires t c =
         cut.first,
         (
           built_first ps xs ys cut c.requires.built,
-          ((k, sequence_first_fits k f c.args.site 4294967296 ps xs ys cut c.requires.cut c.requires.typed.1 c.requires.room), (c.requires.cut, sequence_first_room k f c.args.site 4294967296 ps xs ys cut c.requires.cut c.requires.typed.1 c.requires.room)),
+          ((k, sequence_first_fits k f c.args.site 4294967296 ps xs ys cut c.requires.typed.1 c.requires.room), sequence_first_room k f c.args.site 4294967296 ps xs ys cut c.requires.typed.1 c.requires.room),
         ),
       ),
     )
@@ -132,7 +131,7 @@ build_sequence-build_sequence-requires-2 t c =
         cut.second,
         (
           built_second ps xs ys cut c.requires.built,
-          ((k, sequence_second_fits k f c.args.site 4294967296 ps xs ys cut c.requires.cut c.requires.typed.1 c.requires.room), (c.requires.cut, sequence_second_room k f c.args.site 4294967296 ps xs ys cut c.requires.cut c.requires.typed.1 c.requires.room a u)),
+          ((k, sequence_second_fits k f c.args.site 4294967296 ps xs ys cut c.requires.typed.1 c.requires.room), sequence_second_room k f c.args.site 4294967296 ps xs ys cut c.requires.typed.1 c.requires.room a u),
         ),
       ),
     )
@@ -149,7 +148,7 @@ build_sequence-followed-requires-clause-in_turn t c =
     let cut : IsCutIn ps xs ys = cut_at _ ps xs ys c.split_at.ensures.front c.split_at.ensures.back (omega arith) (omega arith) in
     let k = c.requires.typed.0 in
     let f = c.args.takes in
-    halves_in_turn k f c.args.site 4294967296 ps xs ys cut c.requires.cut c.requires.typed.1 c.requires.room c.in_ok-earlier.field-0 c.in_ok-earlier.ensures c.in-Ok.field-0 c.in-Ok.ensures
+    halves_in_turn k f c.args.site 4294967296 ps xs ys cut c.requires.typed.1 c.requires.room c.in_ok-earlier.field-0 c.in_ok-earlier.ensures c.in-Ok.field-0 c.in-Ok.ensures
 
 pub build_sequence-returns-in_ok-node-in-Ok : goal.build_sequence-returns-in_ok-node-in-Ok
 build_sequence-returns-in_ok-node-in-Ok t c =
@@ -166,7 +165,7 @@ build_sequence-returns-in_ok-node-in-Ok t c =
     let e = c.in_ok-node-in-Ok.ensures in
     let n = c.in_ok-node-in-Ok.node in
     subst (λ g. IsBuiltPart (sequence_of ps) (sequence_meaning ps) f c.args.site (record { node = n; gives = g; next = c.in-Ok.field-0.next })) (sym c.join-gives.ensures)
-    (sequence_of_halves k f c.args.site 4294967296 ps xs ys cut c.requires.cut c.requires.typed.1 c.requires.room c.in_ok-earlier.field-0 c.in_ok-earlier.ensures c.in-Ok.field-0 c.in-Ok.ensures n
+    (sequence_of_halves k f c.args.site 4294967296 ps xs ys cut c.requires.typed.1 c.requires.room c.in_ok-earlier.field-0 c.in_ok-earlier.ensures c.in-Ok.field-0 c.in-Ok.ensures n
     (record { well = e.well; unstarted = e.unstarted; bound = e.bound; places = e.places })
     (record { gives = e.gives; takes = e.takes; pieces = e.pieces; exact = e.exact; sites = e.sites; means = e.means }))
 
@@ -188,10 +187,7 @@ build_pipe-build_chain-requires t c =
           b.2,
           (
             c.parts_fit.ensures.chains Join.Plain (map part ps) f (subst (Fits f) same.0 c.requires.typed),
-            (
-              c.requires.cut,
-              subst (λ (m : Meaning). c.args.site + length m.places < 4294967296) same.1 c.requires.room,
-            ),
+            subst (λ (m : Meaning). c.args.site + length m.places < 4294967296) same.1 c.requires.room,
           ),
         ),
       ),
@@ -210,10 +206,7 @@ build_pipe-build_sequence-requires t c =
           b.1,
           (
             c.parts_fit.ensures.sequences (map part ps) f (subst (Fits f) same.0 c.requires.typed),
-            (
-              c.requires.cut,
-              subst (λ (m : Meaning). c.args.site + length m.places < 4294967296) same.1 c.requires.room,
-            ),
+            subst (λ (m : Meaning). c.args.site + length m.places < 4294967296) same.1 c.requires.room,
           ),
         ),
       ),
@@ -268,7 +261,7 @@ build_pipe-build_mark-requires t c =
       (let s = ap (λ (a : TypedPart). a.size) same.0 in let d = c.decreases in omega arith),
       (
         subst IsTrue same.2 c.requires.built,
-        (c.parts_fit.ensures.marks c.in-Mark.field-0 (part q) f (subst (Fits f) same.0 c.requires.typed), (c.requires.cut, omega (arith, r))),
+        (c.parts_fit.ensures.marks c.in-Mark.field-0 (part q) f (subst (Fits f) same.0 c.requires.typed), omega (arith, r)),
       ),
     )
 

@@ -28,7 +28,7 @@ returns-in-SinkFile c =
       bound = e.bound;
       means = λ z xs end. e.means name (sort_in f) z xs end;
     })
-    c.at_site.ensures.node (c.at_site.ensures.gives ∙ c.requires.gives) refl c.at_site.ensures.next
+    c.at_site.ensures.node (c.at_site.ensures.gives ∙ c.requires.gives) c.at_site.ensures.next
 
 pub returns-in-Stdout : goal.returns-in-Stdout
 returns-in-Stdout c =
@@ -51,4 +51,4 @@ returns-in-Stdout c =
       bound = e.bound;
       means = λ z xs end. e.means (sort_in f) z xs end;
     })
-    c.at_site-in-Stdout.ensures.node (c.at_site-in-Stdout.ensures.gives ∙ c.requires.gives) refl c.at_site-in-Stdout.ensures.next
+    c.at_site-in-Stdout.ensures.node (c.at_site-in-Stdout.ensures.gives ∙ c.requires.gives) c.at_site-in-Stdout.ensures.next

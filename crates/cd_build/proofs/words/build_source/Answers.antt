@@ -3,7 +3,7 @@ use Rattle.cd_elem.specs.declared.word.Word.{Word}
 use Rattle.cd_elem.specs.declared.word.SourceWord.{SourceWord}
 use Rattle.cd_meaning.specs.Places.{Reads, ReadsInput}
 use Rattle.cd_types.specs.Flows.{sort_in}
-use Rattle.cd_build.proofs.TypedWords.{source_gives_bytes}
+use Rattle.cd_build.proofs.TypedPieces.{literal_has_type}
 use Rattle.cd_build.proofs.WordNodes.{source_part}
 use Rattle.cd_build.proofs.words.build_source.Goals as goal
 
@@ -29,7 +29,7 @@ returns-in-SourceFile c =
       bound = e.bound;
       means = λ z xs end. e.means name (sort_in f) z xs end;
     })
-    c.at_site.ensures.node (c.at_site.ensures.gives ∙ c.requires.gives) (source_gives_bytes v f c.requires.built) c.at_site.ensures.next
+    c.at_site.ensures.node (c.at_site.ensures.gives ∙ c.requires.gives) c.at_site.ensures.next
 
 pub returns-in-Stdin : goal.returns-in-Stdin
 returns-in-Stdin c =
@@ -52,4 +52,7 @@ returns-in-Stdin c =
       bound = e.bound;
       means = λ z xs end. e.means (sort_in f) z xs end;
     })
-    c.at_site-in-Stdin.ensures.node (c.at_site-in-Stdin.ensures.gives ∙ c.requires.gives) (source_gives_bytes v f c.requires.built) c.at_site-in-Stdin.ensures.next
+    c.at_site-in-Stdin.ensures.node (c.at_site-in-Stdin.ensures.gives ∙ c.requires.gives) c.at_site-in-Stdin.ensures.next
+
+pub literal-requires : goal.literal-requires
+literal-requires c = literal_has_type c.args.word.now c.args.takes (λ name e. c.in_default.not-SourceFile name e) (λ e. c.in_default.not-Stdin e) c.requires.passed

@@ -24,6 +24,10 @@ pub Node::advance-returns-in_ok-made-in-Word-clause-same : goal.Node::advance-re
 Node::advance-returns-in_ok-made-in-Word-clause-same t c =
     word_same c.args.self.now c.in-Word.stage c.step.new.self c.plain.result c.in-Word.is c.in_ok-made-in-Word.ensures.kept
 
+pub Node::advance-returns-in_err-made-in-Word-clause-same : goal.Node::advance-returns-in_err-made-in-Word-clause-same
+Node::advance-returns-in_err-made-in-Word-clause-same t c =
+    word_same c.args.self.now c.in-Word.stage c.step.new.self c.plain.result c.in-Word.is c.in_err-made-in-Word.ensures.kept
+
 pub Node::advance-returns-in_ok-made-in-Source-clause-law : goal.Node::advance-returns-in_ok-made-in-Source-clause-law
 Node::advance-returns-in_ok-made-in-Source-clause-law t c =
     source_law c.args.self.now c.in-Source.source c.step-in-Source.new.self c.args.input c.in_ok-made-in-Source.made c.in-Source.is (λ place h. c.in_ok-made-in-Source.ensures.law place h)

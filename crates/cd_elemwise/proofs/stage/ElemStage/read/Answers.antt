@@ -6,7 +6,8 @@ use Rattle.cd_elemwise.specs.Carried.{Doing, gathered, list_sort}
 use Rattle.cd_elemwise.specs.Plans.{IsPlan}
 use Rattle.cd_elemwise.specs.Stages.{StateFits}
 use Rattle.cd_elemwise.proofs.PlanLaws.{pass_plan, take_all_plan}
-use Rattle.cd_elemwise.proofs.StageLaws.{whole_stage, sort_of_kind}
+use Rattle.cd_elemwise.proofs.StageLaws.{whole_stage}
+use Rattle.cd_step.proofs.CutChunks.{sort_of_kind}
 use Rattle.cd_elemwise.proofs.stage.ElemStage.read.Goals as goal
 
 pub returns-in-Pass-clause-law : goal.returns-in-Pass-clause-law

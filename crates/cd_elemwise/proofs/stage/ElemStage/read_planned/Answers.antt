@@ -8,7 +8,8 @@ use Rattle.cd_elemwise.specs.Stages.{StateFits, carried}
 use Rattle.cd_step.specs.Parts.{IsGiven}
 use Rattle.std.proofs.Common.{Some}
 use Rattle.cd_elemwise.proofs.PlanLaws.{filter_none, filter_plan, map_cut, map_plan, plain_cut}
-use Rattle.cd_elemwise.proofs.StageLaws.{made_stage, none_stage, plain_state, read_from, sink_stage, sort_of_kind}
+use Rattle.cd_elemwise.proofs.StageLaws.{made_stage, none_stage, plain_state, read_from, sink_stage}
+use Rattle.cd_step.proofs.CutChunks.{sort_of_kind}
 use Rattle.cd_elemwise.proofs.stage.ElemStage.read_planned.Goals as goal
 
 pub act-requires-in_default : goal.act-requires-in_default

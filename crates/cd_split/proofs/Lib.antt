@@ -1,0 +1,6 @@
+pub mod CutReads
+pub mod CutterLaws
+pub mod JoinerLaws
+pub mod Searches
+pub mod SplitScans
+pub mod StageLaws
