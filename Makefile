@@ -2,7 +2,7 @@
 PREFIX ?= /usr/local
 PROGRAM = crates/conduit/out/conduit
 
-.PHONY: help build example install test cases edits gate-times random bench clean
+.PHONY: help build example install test cases edits gate-times random refusals bench clean
 
 help:
 	@echo 'make example            compiles the program, unproved, and runs the first example'
@@ -12,6 +12,7 @@ help:
 	@echo 'make cases              writes the data of crates/cases again'
 	@echo 'make edits CRATES=..    tries the wrong changes of the code, and right twins, of these crates or of all'
 	@echo 'make random COUNT=..    runs random scripts under several cuts, 200,000 if not given'
+	@echo 'make refusals           lets one allocation of each test fail, the first forty in turn'
 	@echo 'make gate-times         runs the gate from nothing and prints what it costs'
 	@echo 'make bench              measures words, trees of them, how long scripts are judged, and whole scripts beside Unix tools'
 	@echo 'make clean              removes what was built'
@@ -46,6 +47,10 @@ edits:
 random:
 	cd crates/cases && rt run > /dev/null
 	tools/random_scripts.py $(COUNT)
+
+# Not in the gate, for each allocation costs a run of all tests.
+refusals:
+	tools/refusals.sh
 
 # Without words the program that measures does nothing, so `rt run` here only proves and links it.
 bench:

@@ -1,5 +1,5 @@
 // Words with sites as statements: each call on the outside, and how the run ends.
-use cd_elem::Site;
+use cd_elem::{NoMemory, Site};
 use cd_run::RunFault;
 use cd_world::Fail;
 use std::test;
@@ -110,7 +110,11 @@ closed
     ];
     for row in rows {
         let driven = drive(rt.alloc(), row.word, "abc", row.failing, 2, row.limit)?;
-        assert!(rt; driven.ended.answer.err() == row.fault);
+        let fault = driven.ended.answer.err();
+        if fault == Some(RunFault::NoMemory) {
+            Err(NoMemory)?;
+        }
+        assert!(rt; fault == row.fault);
         assert_eq!(rt; driven.calls.as_str(), row.calls);
     }
     Ok(())

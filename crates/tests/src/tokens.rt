@@ -56,7 +56,10 @@ fn spellings(rt: HostRuntime) {
     let mut wanted = String::from_str(alloc, "# ").expect(&rt, "memory");
     for (place, spelling) in SPELLINGS.iter().enumerate() {
         let token = token_at(alloc, place).expect(&rt, "memory");
-        assert!(rt; tokens.push(token).is_ok());
+        tokens
+            .push(token)
+            .map_err(|_| NoMemory)
+            .expect(&rt, "memory");
         wanted.push_str(spelling).expect(&rt, "memory");
     }
     let mut text = String::from_str(alloc, "# ").expect(&rt, "memory");

@@ -11,14 +11,14 @@ fn lists(rt: HostRuntime) {
     let mut items: Items<u32> = Items::new(alloc);
     assert!(rt; items.is_empty());
     for number in [5, 6, 7] {
-        assert!(rt; items.push(number).is_ok());
+        with(&mut items, number).expect(&rt, "memory");
     }
     if let Some(middle) = items.get_mut(1) {
         *middle = 9;
     }
     assert!(rt; items.get(1) == Some(&9) && items.get(3) == None);
     assert!(rt; items.pop() == Some(7));
-    assert!(rt; items.extend_from_slice(&[1, 2]).is_ok());
+    items.extend_from_slice(&[1, 2]).expect(&rt, "memory");
     assert!(rt; items.as_slice() == [5, 9, 1, 2].as_slice());
     let copy = Items::from_slice(alloc, items.as_slice()).expect(&rt, "memory");
     assert!(rt; copy.into_vec().as_slice() == [5, 9, 1, 2].as_slice());
@@ -27,9 +27,9 @@ fn lists(rt: HostRuntime) {
 #[test]
 fn reserved_room(rt: HostRuntime) {
     let mut roomy: Roomy<u32> = Roomy::new(rt.alloc());
-    assert!(rt; roomy.reserve(2).is_ok());
+    roomy.reserve(2).expect(&rt, "memory");
     for number in [5, 6, 7] {
-        assert!(rt; roomy.push(number).is_ok());
+        roomy.push(number).expect(&rt, "memory");
     }
     if let Some(first) = roomy.get_mut(0) {
         *first = 4;
@@ -95,9 +95,9 @@ fn values(rt: HostRuntime) {
     let alloc = rt.alloc();
     let mut list: ValueList = Items::new(alloc);
     let pair = pair_of(alloc).expect(&rt, "memory");
-    assert!(rt; with(&mut list, pair).is_ok());
+    with(&mut list, pair).expect(&rt, "memory");
     let bytes = Items::from_slice(alloc, b"ab").expect(&rt, "memory");
-    assert!(rt; with(&mut list, Value::BytesV(bytes)).is_ok());
+    with(&mut list, Value::BytesV(bytes)).expect(&rt, "memory");
     let last = list.pop().expect(&rt, "the last value");
     assert!(rt; matches!(&last, Value::BytesV(bytes) if bytes.as_slice() == b"ab".as_slice()));
     let first = list.pop().expect(&rt, "the first value");
@@ -143,7 +143,7 @@ fn scripts(rt: HostRuntime) {
     let alloc = rt.alloc();
     let chain = chain_of(alloc).expect(&rt, "memory");
     let mut statements: StmtList = Items::new(alloc);
-    assert!(rt; with(&mut statements, Stmt::Run(chain)).is_ok());
+    with(&mut statements, Stmt::Run(chain)).expect(&rt, "memory");
     let script = Script::new(statements);
     assert!(rt; matches!(script.statements().get(0), Some(Stmt::Run(pipe)) if is_chain(pipe)));
 }
