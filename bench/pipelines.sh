@@ -14,6 +14,13 @@ export LC_ALL=C
 
 yes 'The quick brown fox jumps over the lazy dog, 0123456789 times.' | head -c 268435456 > big
 head -c 2048 big > small
+# lines of 0 to 80 bytes, some of which begin with an a, and with commas in them
+awk 'BEGIN {
+    srand(7)
+    text = "another quick brown fox, a lazy dog, and 0123456789 times, or abcdefghijklmnopqrstuvwxyz, again and again, and so on"
+    for (i = 0; i < 8192; i++) print substr(text, 1 + int(rand() * 32), int(rand() * 81))
+}' > some
+while cat some; do :; done 2> /dev/null | head -c 268435456 > lines
 
 script() {
     printf 'run %s;' "$2" > "$1"
@@ -28,6 +35,12 @@ script pass 'stdin | passE | stdout'
 script five 'sourceFile "big" | passE | passE | passE | passE | passE | stdout'
 script twice '{ sourceFile "big"; sourceFile "big" } | stdout'
 script repeat 'sourceFile "big" | repeatE 2 | stdout'
+script count 'sourceFile "lines" | lines 65536 | length'
+script through 'sourceFile "lines" | lines 4096 | unlines | stdout'
+script begin 'sourceFile "lines" | lines 4096 | filter begins "a" | unlines | stdout'
+script records 'sourceFile "big" | chunksOf 4096 | flat | stdout'
+script commas 'sourceFile "lines" | split "," 64 | length'
+script first 'sourceFile "lines" | lines 4096 | take 5 | unlines | stdout'
 script line "sourceFile \"small\" | { $(yes 'takeE 1;' | head -n 2047 | tr '\n' ' ')takeE 1 } | stdout"
 
 # row NAME SCRIPT ARGUMENTS TOOL: the ratio of the script to the tool, and to a plain read in the same runs.
@@ -54,6 +67,12 @@ row '`mapE rot13`' map '> /dev/null' 'tr A-Za-z N-ZA-Mn-za-m < big > /dev/null'
 row '`stdin \| passE \| stdout`, three in a pipe' pass "< big | $conduit run pass | $conduit run pass > /dev/null" 'cat < big | cat | cat > /dev/null'
 row 'five `passE`' five '> /dev/null' "$conduit run copy > /dev/null"
 row '`repeatE 2`' repeat '> /dev/null' "$conduit run twice > /dev/null"
+row '`lines 65536 \| length`' count '> /dev/null' 'wc -l lines > /dev/null'
+row '`lines 4096 \| unlines`' through '> /dev/null' "sed '' lines > /dev/null"
+row '`lines 4096 \| filter begins "a" \| unlines`' begin '> /dev/null' "grep '^a' lines | cat > /dev/null"
+row '`chunksOf 4096 \| flat`' records '> /dev/null' 'dd if=big bs=4096 of=/dev/null 2> /dev/null'
+row '`split "," 64 \| length`' commas '> /dev/null' "$conduit run count > /dev/null"
+row '`lines 4096 \| take 5 \| unlines`' first '> /dev/null' 'head -n 5 lines > /dev/null'
 
 # calls NAME SCRIPT ARGUMENTS: how many reads and writes the script made.
 calls() {
