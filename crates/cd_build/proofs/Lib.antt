@@ -5,6 +5,7 @@ pub mod Marks
 pub mod Outputs
 pub mod Rows
 pub mod Sequences
+pub mod SlicedChains
 pub mod Trees
 pub mod TypedPieces
 pub mod TypedSplits

@@ -5,6 +5,7 @@
 
 mod built;
 mod pipes;
+mod slices;
 mod statements;
 mod words;
 

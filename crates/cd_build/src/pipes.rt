@@ -10,6 +10,7 @@ ghost use Rattle.cd_build.specs.Built.{IsBuilt};
 ghost use Rattle.cd_build.specs.Builds.{AreBuilt, chain_meaning, chain_of, sequence_meaning, sequence_of};
 ghost use Rattle.cd_build.specs.BuiltNodes.{IsBuiltPart};
 
+use crate::slices::{build_sliced, halving_place};
 use crate::words::build_word;
 use cd_elem::{Kind, NoMemory, Pipe, Site};
 use cd_node::Node;
@@ -60,7 +61,8 @@ fn build_mark(alloc: Global, body: &Pipe, takes: Option<Kind>, site: u32) -> Res
     Ok(Built { node, gives, next })
 }
 
-/// The node of members of a chain. They are halved, so that the tree of nodes is as low as it can be.
+/// The node of members of a chain: one leaf where they are such a chain, and else they are cut in two, so that the tree of
+/// nodes is low.
 #[cycle(build)]
 fn build_chain(
     alloc: Global,
@@ -77,7 +79,10 @@ fn build_chain(
     if members.len() == 1 {
         return build_pipe(alloc, &members[0], takes, site);
     }
-    let (first, second) = members.split_at(members.len() / 2);
+    if let Some(built) = build_sliced(alloc, members, takes, site)? {
+        return Ok(built);
+    }
+    let (first, second) = members.split_at(halving_place(members));
     let Built {
         node: upper,
         gives: between,

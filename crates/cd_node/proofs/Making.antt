@@ -20,6 +20,10 @@ use Rattle.cd_split.specs.declared.stage.SplitStage.TheVariants.{Cut, Join}
 use Rattle.cd_split.specs.Cutting.{CutterStands}
 use Rattle.cd_split.specs.Joining.{JoinerStands}
 use Rattle.cd_split.proofs.StageLaws.{well_held as split_held}
+use Rattle.cd_slices.specs.declared.stage.SliceStage.{SliceStage}
+use Rattle.cd_slices.specs.Slicing.{is_ready}
+use Rattle.cd_slices.specs.Stages.{SlicesStand, seen_slices, slices_fit, stands}
+use Rattle.cd_slices.proofs.StageLaws.{well_held as slices_held}
 use Rattle.cd_fuse.specs.declared.fuse.Fuse.{Fuse}
 use Rattle.cd_fuse.specs.declared.follow.Follow.{Follow}
 use Rattle.cd_fuse.specs.Fuses.{whole_fuse, fuse_is_at, IsFuseIn}
@@ -60,6 +64,11 @@ split_unstarted (Cut e) f h =
 split_unstarted (Join e) f h =
     let s = subst (λ x. JoinerStands x e.told e.keep) (stand_fresh e.stand h) f.0 in
     record { unbegun = record { is_at = h; floor = rw s.0 refl; unread = rw s.0 refl }; no_ticket = λ s d. refl; held = split_held (Join e) f }
+
+pub slices_unstarted : (e : SliceStage) → slices_fit e → (seen_slices e).at ≡ Fresh → IsUnstarted (seen_slices e)
+slices_unstarted e f h =
+    let s = subst (λ x. SlicesStand x e.told e.keep (is_ready (stands e.slicer.tail))) (stand_fresh e.stand h) f.0 in
+    record { unbegun = record { is_at = h; floor = rw s.0 refl; unread = rw (s.0, s.1) refl }; no_ticket = λ s d. refl; held = slices_held e f }
 
 pub literal_unstarted : (e : LiteralStage) → (seen_literal e).at ≡ Fresh → IsUnstarted (seen_literal e)
 literal_unstarted e h = record { unbegun = record { is_at = h; floor = refl; unread = refl }; no_ticket = λ s d. refl; held = literal_held e }

@@ -7,6 +7,7 @@ use Rattle.cd_step.specs.Parts.{IsHeld, IsSound, Kept, chunk_at, fed}
 use Rattle.cd_elemwise.proofs.StageLaws as elements
 use Rattle.cd_pieces.proofs.LiteralLaws.{literal_held, literal_sound}
 use Rattle.cd_pieces.proofs.StageLaws as pieces
+use Rattle.cd_slices.proofs.StageLaws as slices
 use Rattle.cd_split.proofs.StageLaws as splits
 use Rattle.cd_split.specs.declared.stage.SplitStage.TheVariants.{Cut, Join}
 use Rattle.cd_node.specs.Trees.{IsSameNode}
@@ -14,25 +15,28 @@ use Rattle.cd_node.specs.WordStages.{seen_word, word_fits, word_most, word_one}
 use Rattle.cd_node.specs.declared.node.Node.{Node}
 use Rattle.cd_node.specs.declared.node.Node.TheVariants as node
 use Rattle.cd_node.specs.declared.word.WordStage.{WordStage}
-use Rattle.cd_node.specs.declared.word.WordStage.TheVariants.{Elem, Piece, Literal, Split}
+use Rattle.cd_node.specs.declared.word.WordStage.TheVariants.{Elem, Piece, Literal, Split, Slices}
 
 pub word_sound : (w : WordStage) → IsSound (seen_word w)
 word_sound (Elem e) = elements.stage_sound e
 word_sound (Piece e) = pieces.stage_sound e
 word_sound (Literal e) = literal_sound e
 word_sound (Split e) = splits.stage_sound e
+word_sound (Slices e) = slices.stage_sound e
 
 pub word_held : (w : WordStage) → word_fits w → IsHeld (seen_word w)
 word_held (Elem e) h = elements.within_held e h.2
 word_held (Piece e) h = pieces.well_held e h.1
 word_held (Literal e) h = literal_held e
 word_held (Split e) h = splits.well_held e h
+word_held (Slices e) h = slices.well_held e h
 
 pub word_room : (w : WordStage) → (seen_word w).room ≡ word_most w + word_one w
 word_room (Elem e) = refl
 word_room (Piece e) = refl
 word_room (Literal e) = refl
 word_room (Split e) = splits.stage_room e
+word_room (Slices e) = refl
 
 -- ---- what no step changes
 
@@ -48,6 +52,7 @@ one_is (Piece e) = refl
 one_is (Literal e) = refl
 one_is (Split (Cut e)) = refl
 one_is (Split (Join e)) = refl
+one_is (Slices e) = refl
 
 fed_kept : (w v : WordStage) (i : Input) → Kept (fed i (seen_word w)) (seen_word v) → Kept (seen_word w) (seen_word v)
 fed_kept w v Start h = h

@@ -2,6 +2,7 @@
 ghost use Rattle.std.specs.Prelude.{◌≡◌, ◌+◌, ◌==◌, ◌||◌, ℕ, IfOk, List, None, Some, false, true};
 ghost use Rattle.cd_elem.specs.Limits.{chunk_limit};
 ghost use Rattle.cd_elem.specs.declared.kind.Kind.TheVariants as kind;
+ghost use Rattle.cd_elem.specs.declared.kind.Sort.TheVariants as sort;
 ghost use Rattle.cd_elem.specs.declared.word.ElemWord.TheVariants as elements;
 ghost use Rattle.cd_elem.specs.declared.word.SinkWord.TheVariants as sinks;
 ghost use Rattle.cd_elem.specs.declared.word.SourceWord.TheVariants as sources;
@@ -19,6 +20,10 @@ ghost use Rattle.cd_meaning.specs.Stream.{End, Flow, Item};
 ghost use Rattle.cd_meaning.specs.WordMeanings.{word_meaning};
 ghost use Rattle.cd_pieces.specs.Carried as pieces;
 ghost use Rattle.cd_pieces.specs.Literals as literals;
+ghost use Rattle.cd_slices.specs.Chains as slices;
+ghost use Rattle.cd_slices.specs.Chains.{HasRange, IsCutter, IsFirst};
+ghost use Rattle.cd_slices.specs.Stages as slice_stages;
+ghost use Rattle.cd_slices.specs.Stages.{MayJoin};
 ghost use Rattle.cd_split.specs.Splitting as splits;
 ghost use Rattle.cd_step.specs.Parts.{both_sites, chunk_at, joined, of_pieces, pieces_at, shared, sort_at};
 ghost use Rattle.cd_node.specs.Makes.{IsPairOf, IsUnstarted};
@@ -35,6 +40,7 @@ use cd_elem::{ElemWord, Kind, NoMemory, PieceWord, Site, Sort, SourceWord, Split
 use cd_elemwise::elem_stage;
 use cd_fuse::{Follow, Fuse};
 use cd_pieces::{literal_stage, piece_stage, sink_null};
+use cd_slices::{Sieve, SliceEnd, slice_stage};
 use cd_split::split_stage;
 use std::alloc::Global;
 
@@ -116,6 +122,28 @@ impl Node {
     {
         let stage = split_stage(alloc, word, kind)?;
         Ok(Node::Word(WordStage::Split(stage)))
+    }
+
+    /// A splitter of bytes, words that pass pieces on or drop them, and a word that takes the pieces, as one leaf.
+    pub fn slices(alloc: Global, word: SplitWord, sieves: Vec<Sieve>, end: SliceEnd) -> Node
+        requires cutter { IsCutter word }
+        requires range { HasRange word }
+        requires first { IsFirst end }
+        requires joins { MayJoin end (slices.bound_of word) }
+        ensures well { IsWell result }
+        ensures unstarted { IsUnstarted (seen result) }
+        ensures gives { (seen result).gives ≡ slice_stages.gives_of end }
+        ensures takes { (seen result).takes ≡ Some kind.Bytes }
+        ensures pieces { (seen result).grade.pieces ≡ of_pieces (seen result).takes }
+        ensures exact { (seen result).grade.exact ≡ true }
+        ensures sites { (t : ℕ) → (seen result).sites t ≡ false }
+        ensures places { (place : ℕ → Place) → StandsAt result place }
+        ensures bound { bound_of result ≡ slices.bound_of word }
+        ensures chunks { chunks_of result ≡ chunk_limit }
+        ensures means { (z : Seen) (site : ℕ) (told : Seen) (xs : List Item) (end' : End)
+            → (seen result).run z xs end' ≡ (slices.chain_meaning word sieves.items end).run (Some sort.Bytes) site told xs end' }
+    {
+        Node::Word(WordStage::Slices(slice_stage(alloc, word, sieves, end)))
     }
 
     /// A word that gives what stands in the script.

@@ -1,7 +1,8 @@
-// The words without sites, whichever crate they are from.
+// The words without sites, whichever crate they are from, and chains of them that are one stage.
 use cd_elem::{Chunk, NoMemory};
 use cd_elemwise::ElemStage;
 use cd_pieces::{LiteralStage, PieceStage};
+use cd_slices::SliceStage;
 use cd_split::SplitStage;
 use cd_step::{Input, Move, Stage};
 use std::alloc::Global;
@@ -13,6 +14,7 @@ pub enum WordStage {
     Piece(PieceStage),
     Literal(LiteralStage),
     Split(SplitStage),
+    Slices(SliceStage),
 }
 
 impl Stage for WordStage {
@@ -30,22 +32,11 @@ impl Stage for WordStage {
     #[inline(always)]
     fn step(&mut self, alloc: Global, input: Input) -> Result<Move, NoMemory> {
         match self {
-            WordStage::Elem(stage) => {
-                let made = stage.step(alloc, input)?;
-                Ok(made)
-            }
-            WordStage::Piece(stage) => {
-                let made = stage.step(alloc, input)?;
-                Ok(made)
-            }
-            WordStage::Literal(stage) => {
-                let made = stage.step(alloc, input)?;
-                Ok(made)
-            }
-            WordStage::Split(stage) => {
-                let made = stage.step(alloc, input)?;
-                Ok(made)
-            }
+            WordStage::Elem(stage) => stage.step(alloc, input),
+            WordStage::Piece(stage) => stage.step(alloc, input),
+            WordStage::Literal(stage) => stage.step(alloc, input),
+            WordStage::Split(stage) => stage.step(alloc, input),
+            WordStage::Slices(stage) => stage.step(alloc, input),
         }
     }
 
@@ -55,6 +46,7 @@ impl Stage for WordStage {
             WordStage::Piece(stage) => stage.held(),
             WordStage::Literal(stage) => stage.held(),
             WordStage::Split(stage) => stage.held(),
+            WordStage::Slices(stage) => stage.held(),
         }
     }
 
@@ -64,6 +56,7 @@ impl Stage for WordStage {
             WordStage::Piece(stage) => stage.bound(),
             WordStage::Literal(stage) => stage.bound(),
             WordStage::Split(stage) => stage.bound(),
+            WordStage::Slices(stage) => stage.bound(),
         }
     }
 
@@ -73,6 +66,7 @@ impl Stage for WordStage {
             WordStage::Piece(stage) => stage.retire(),
             WordStage::Literal(stage) => stage.retire(),
             WordStage::Split(stage) => stage.retire(),
+            WordStage::Slices(stage) => stage.retire(),
         }
     }
 }
